@@ -1,0 +1,5 @@
+-- Laws of the definitions of specs/.
+pub mod Picks
+pub mod Scans
+pub mod Parts
+pub mod Emits
