@@ -1,0 +1,5 @@
+pub mod Answer
+pub mod Command
+pub mod Rules
+pub mod Record
+pub mod Book

@@ -1,0 +1,102 @@
+-- What document 01 says of the definitions in words, proved of them.
+use mathlib.Core.Path.{_≡_, refl, sym, ap, ap₂, _∙_}
+use mathlib.Core.List.{List, [], _∷_, _++_}
+use mathlib.Core.Bool.{Bool, true, false, not, _&&_, _||_, cond, false≢true}
+use mathlib.Core.Option.{Option, some, none}
+use Prim.Native.Nat.{ℕ, zero, suc, _+_, _-_, _≤_, _<_}
+use native.Mathlib.Omega.{arith}
+use lib.Dec.{eqb, ltb}
+use lib.ListN.{length, drop, length-append, length-drop}
+use borrow.Author.Tests.{eq-eqb, lt-ltb, le-ltb}
+use Rattle.text.specs.Bytes.{Text}
+use Rattle.text.specs.Text.{sameText, someOf}
+use Rattle.path.specs.Path.{split, leadsDot, pieceOf, heads, components, leftOf, isSome, under, samePath, sameList, names, starts, extension}
+use Rattle.book.specs.Answer.{Answer, refused, given}
+use Rattle.tsconfig.specs.Config.{Field, files, include, exclude}
+use Rattle.tsconfig.specs.Claims.{Site, solutionStyle, isNone, isEmptyList, accepts, namedFile, included, excluded, outside}
+use Rattle.questions.specs.Questions.{Outcome, Reply, fit, output}
+
+same-self : (a : Text) → sameText a a ≡ true
+unfolding sameText
+same-self [] = refl
+same-self (x ∷ a) = ap₂ _&&_ (eq-eqb x x refl) (same-self a)
+
+left-self : (as′ : List Text) → leftOf as′ as′ ≡ some []
+unfolding leftOf
+left-self [] = refl
+left-self (a ∷ as′) = rw (same-self a) (left-self as′)
+
+left-nil : (as′ : List Text) → leftOf as′ [] ≡ some as′
+unfolding leftOf
+left-nil [] = refl
+left-nil (a ∷ as′) = refl
+
+-- "a path lies under itself"
+pub under-self : (p : Text) → under p p ≡ true
+unfolding under isSome
+under-self p = rw (left-self (components p)) refl
+
+none-of-empty : components [] ≡ []
+unfolding components heads starts split names leadsDot pieceOf
+none-of-empty = refl
+
+-- "every path under the empty one"
+pub under-empty : (p : Text) → under p [] ≡ true
+unfolding under isSome
+under-empty p = ap (λ l. isSome (leftOf (components p) l)) none-of-empty ∙ ap isSome (left-nil (components p))
+
+list-self : (as′ : List Text) → sameList as′ as′ ≡ true
+unfolding sameList
+list-self [] = refl
+list-self (a ∷ as′) = ap₂ _&&_ (same-self a) (list-self as′)
+
+pub path-self : (p : Text) → samePath p p ≡ true
+unfolding samePath
+path-self p = list-self (components p)
+
+-- An answer fits the room or is refused by 13 at the bytes needed.
+pub fits : (room : ℕ) (r : Reply) → length (r .bytes) ≤ room → fit room r ≡ given r
+unfolding fit
+fits room r h = rw (le-ltb room (length (r .bytes)) h) refl
+
+pub too-long : (room : ℕ) (r : Reply) → room < length (r .bytes) → fit room r ≡ refused 13 (length (r .bytes))
+unfolding fit
+too-long room r h = rw (lt-ltb room (length (r .bytes)) h) refl
+
+-- Lent output keeps its size.
+pub output-size : (r : Reply) (old : Text) → length (r .bytes) ≤ length old → length (output (given r) old) ≡ length old
+unfolding output
+output-size r old h = rw (length-append (r .bytes) (drop (length (r .bytes)) old)) (rw (length-drop (length (r .bytes)) old) (omega (arith, h)))
+
+not-listed : (path : Text) (o : Option (List Text)) → isEmptyList o ≡ true → namedFile path o ≡ false
+unfolding isEmptyList namedFile someOf
+not-listed path none h = refl
+not-listed path (some []) h = refl
+not-listed path (some (x ∷ xs)) h = absurd (false≢true h)
+
+not-included : (s : Site) (path : Text) (o : Option (List Text)) → isEmptyList o ≡ true → included s path o ≡ false
+unfolding isEmptyList included someOf
+not-included s path none h = absurd (false≢true h)
+not-included s path (some []) h = refl
+not-included s path (some (x ∷ xs)) h = absurd (false≢true h)
+
+and-false : (b : Bool) → b && false ≡ false
+and-false true = refl
+and-false false = refl
+
+and-right : (a b : Bool) → a && b ≡ true → b ≡ true
+and-right true b h = h
+and-right false b h = absurd (false≢true h)
+
+and-left : (a b : Bool) → a && b ≡ true → a ≡ true
+and-left true b h = refl
+and-left false b h = absurd (false≢true h)
+
+-- The test for solution style changes no answer: such a config accepts nothing by itself.
+pub solution-style-idle : (path : Text) (s : Site) (refs : List Site) → solutionStyle s refs ≡ true → accepts path s ≡ false
+unfolding solutionStyle accepts
+solution-style-idle path s refs h =
+    let e = and-right (not (isNone refs)) _ h in
+    rw (not-listed path (s .config .named files) (and-left (isEmptyList (s .config .named files)) _ e)) (
+    rw (not-included s path (s .config .named include) (and-right (isEmptyList (s .config .named files)) _ e)) (
+    and-false (not (outside (s .config) (extension path)))))

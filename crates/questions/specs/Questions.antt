@@ -1,0 +1,107 @@
+-- The four questions: outcome, returned numbers, output.
+use mathlib.Core.List.{List, [], _∷_, _++_, map}
+use mathlib.Core.Bool.{Bool, not, _&&_, cond}
+use mathlib.Core.Option.{Option, some, none}
+use Prim.Native.Nat.{ℕ, _/_, _%_}
+use lib.Dec.{ltb}
+use lib.ListN.{length, drop}
+use Rattle.text.specs.Bytes.{Text}
+use Rattle.book.specs.Answer.{Answer, refused, given, _>>=_}
+use Rattle.strings.specs.Strings.{askedPath, stringRule}
+use Rattle.book.specs.Book.{verdict}
+use Rattle.tsconfig.specs.Parsed.{Parsed, parsed}
+use Rattle.tsconfig.specs.Listing.{listing}
+use Rattle.tsconfig.specs.Mapping.{candidates, tries}
+use Rattle.tsconfig_resolver.specs.Find.{recordAt}
+use Rattle.tsconfig_resolver.specs.Project.{Project, Owner, loadPath, ownerOf}
+
+-- what is answered: two numbers, and the bytes written
+pub record Reply : Type 0 where
+  pub first : ℕ
+  pub second : ℕ
+  pub bytes : Text
+
+abbrev pub Outcome : Type 0
+Outcome = Answer Reply
+
+abbrev pub reply : ℕ → ℕ → Text → Outcome
+reply a b s = given (record { first = a; second = b; bytes = s })
+
+-- "the answer is longer than the output": 13, "the bytes needed"
+unfoldable pub fit : ℕ → Reply → Outcome
+fit room r = cond (ltb room (length (r .bytes))) (refused 13 (length (r .bytes))) (given r)
+
+-- "each a 2-byte length, low byte first, and bytes"
+unfoldable pub laid : List Text → Text
+laid [] = []
+laid (t ∷ ts) = (length t % 256) ∷ (length t / 256) ∷ (t ++ laid ts)
+
+-- the question's own check, before anything is loaded
+unfoldable pub asked : Bool → Outcome → Outcome
+asked ok o = cond ok o (refused 7 0)
+
+unfoldable pub build : List Parsed → ℕ → Text → Outcome
+build rs room path = asked (askedPath path) (do
+  p ← loadPath rs path
+  fit room (record { first = p .site .number; second = p .merges; bytes = listing (recordAt rs (p .site .number) .references) (p .site .config) }))
+
+unfoldable pub listed : ℕ → List Text → Outcome
+listed room ts = fit room (record { first = length ts; second = 0; bytes = laid ts })
+
+unfoldable pub candidatesOf : List Parsed → ℕ → Text → Text → Outcome
+candidatesOf rs room path s = asked (askedPath path && stringRule s) (do
+  p ← loadPath rs path
+  listed room (candidates (p .site .config) s))
+
+unfoldable pub triesOf : List Parsed → ℕ → Text → Text → Text → Outcome
+triesOf rs room path dir s = asked (askedPath path && (askedPath dir && stringRule s)) (do
+  p ← loadPath rs path
+  listed room (tries (p .site .config) dir s))
+
+-- "answers 65,535 twice for none"
+unfoldable pub ownerReply : Option Owner → Outcome
+ownerReply none = reply 65535 65535 []
+ownerReply (some o) = reply (o .found) (o .solved) []
+
+unfoldable pub owner : List Parsed → Text → Outcome
+owner rs path = asked (askedPath path) (do
+  o ← ownerOf rs path
+  ownerReply o)
+
+-- From the lent bytes on: "Each question checks the book first."
+
+-- the records of a book
+unfoldable pub book : Text → Text → Answer (List Parsed)
+book commands text = do
+  rs ← verdict commands text
+  given (map (parsed text) rs)
+
+unfoldable pub tsconfigBuild : Text → Text → Text → ℕ → Outcome
+tsconfigBuild commands text path room = do
+  rs ← book commands text
+  build rs room path
+
+unfoldable pub tsconfigOwner : Text → Text → Text → Outcome
+tsconfigOwner commands text path = do
+  rs ← book commands text
+  owner rs path
+
+unfoldable pub tsconfigCandidates : Text → Text → Text → Text → ℕ → Outcome
+tsconfigCandidates commands text path specifier room = do
+  rs ← book commands text
+  candidatesOf rs room path specifier
+
+unfoldable pub tsconfigTries : Text → Text → Text → Text → Text → ℕ → Outcome
+tsconfigTries commands text path directory specifier room = do
+  rs ← book commands text
+  triesOf rs room path directory specifier
+
+-- number, place, the two numbers, the bytes written
+unfoldable pub returned : Outcome → List ℕ
+returned (refused n p) = n ∷ p ∷ 0 ∷ 0 ∷ 0 ∷ []
+returned (given r) = 0 ∷ 0 ∷ r .first ∷ r .second ∷ length (r .bytes) ∷ []
+
+-- "lent output holds, after a call, the whole answer and then its old bytes, or on a refusal its old bytes alone"
+unfoldable pub output : Outcome → Text → Text
+output (refused n p) old = old
+output (given r) old = r .bytes ++ drop (length (r .bytes)) old

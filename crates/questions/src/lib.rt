@@ -1,0 +1,1 @@
+// The questions: their definitions stand in specs/.

@@ -1,0 +1,1 @@
+// The rules of strings and paths: their definitions stand in specs/.

@@ -1,0 +1,94 @@
+-- The file test over a built config, claims, and the solution.
+use mathlib.Core.List.{List, [], _∷_, _++_}
+use mathlib.Core.Bool.{Bool, true, false, not, _&&_, _||_, cond}
+use mathlib.Core.Option.{Option, some, none, Option·getD}
+use Prim.Native.Nat.{ℕ}
+use lib.Dec.{eqb}
+use Rattle.tsconfig.specs.Config.{Field, files, include, exclude, flag}
+use Rattle.text.specs.Bytes.{Text, bytes, slash, dot, star, question}
+use Rattle.text.specs.Text.{sameText, someOf, isTsExtension, isJsExtension}
+use Rattle.path.specs.Path.{parentOf, samePath, under, lastPiece, extension, isSome}
+use Rattle.glob.specs.Glob.{globOf}
+use Rattle.tsconfig.specs.Build.{Settings}
+
+-- a built config at its path, with its record's number
+pub record Site : Type 0 where
+  pub number : ℕ
+  pub path : Text
+  pub config : Settings
+
+-- the flag 8 of `CompilerOptions`
+abbrev pub allowJs : Settings → Bool
+allowJs c = Option·getD (c .named (flag 8)) false
+
+-- is_file_extension_allowed_in_tsconfig
+unfoldable pub allowed : Settings → Option Text → Bool
+allowed c none = false
+allowed c (some e) = isTsExtension e || (allowJs c && isJsExtension e)
+
+-- is_extensionless_or_uncompiled_js
+unfoldable pub outside : Settings → Option Text → Bool
+outside c none = true
+outside c (some e) = not (allowJs c) && isJsExtension e
+
+-- the text ends with the byte
+unfoldable pub ends : ℕ → Text → Bool
+ends c [] = false
+ends c (x ∷ []) = eqb x c
+ends c (x ∷ y ∷ s) = ends c (y ∷ s)
+
+abbrev pub isSpecial : ℕ → Bool
+isSpecial x = eqb x dot || (eqb x star || eqb x question)
+
+-- "The implicit `/**/*` .. are `is_glob_match`'s": where the last piece has no dot, star or question mark
+unfoldable pub implied : Text → Text
+implied p = cond (someOf isSpecial (lastPiece p)) p (p ++ cond (ends slash p) (bytes "**/*") (bytes "/**/*"))
+
+-- is_glob_match: equal, or matched, a pattern ending in a star only for the allowed extensions
+unfoldable pub matched : Settings → Text → Text → Bool
+matched c path p = sameText p path || ((not (ends star (implied p)) || allowed c (extension path)) && globOf (implied p) path)
+
+-- step 3: the include patterns; without them none where files are named, else all below the directory
+unfoldable pub included : Site → Text → Option (List Text) → Bool
+included s path (some ps) = someOf (matched (s .config) path) ps
+included s path none =
+    not (isSome (s .config .named files)) && (under path (parentOf (s .path)) && allowed (s .config) (extension path))
+
+-- step 4
+unfoldable pub excluded : Site → Text → Option (List Text) → Bool
+excluded s path none = false
+excluded s path (some ps) = someOf (matched (s .config) path) ps
+
+-- step 1: "`files` compares by components"
+unfoldable pub namedFile : Text → Option (List Text) → Bool
+namedFile path none = false
+namedFile path (some fs) = someOf (λ f. samePath f path) fs
+
+-- the core's file test: is_file_included_in_tsconfig
+unfoldable pub accepts : Text → Site → Bool
+accepts path s =
+    namedFile path (s .config .named files)
+    || (not (outside (s .config) (extension path))
+    && (included s path (s .config .named include) && not (excluded s path (s .config .named exclude))))
+
+unfoldable pub isEmptyList : Option (List Text) → Bool
+isEmptyList none = false
+isEmptyList (some []) = true
+isEmptyList (some (x ∷ xs)) = false
+
+unfoldable pub isNone : List Site → Bool
+isNone [] = true
+isNone (r ∷ rs) = false
+
+-- "have `references` and explicit empty `files` / `include`"
+unfoldable pub solutionStyle : Site → List Site → Bool
+solutionStyle s refs = not (isNone refs) && (isEmptyList (s .config .named files) && isEmptyList (s .config .named include))
+
+-- claims_ownership_of
+unfoldable pub claims : Text → Site → List Site → Bool
+claims path s refs = someOf (accepts path) refs || (not (solutionStyle s refs) && accepts path s)
+
+-- resolve_tsconfig_solution: the first reference that accepts the path, else the config itself
+unfoldable pub solution : Text → Site → List Site → ℕ
+solution path s [] = s .number
+solution path s (r ∷ rs) = cond (accepts path r) (r .number) (solution path s rs)

@@ -1,0 +1,1 @@
+// A config: its definitions stand in specs/.

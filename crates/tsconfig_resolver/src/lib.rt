@@ -1,0 +1,1 @@
+// Loading configs: its definitions stand in specs/.
