@@ -8,7 +8,7 @@ use lib.ListN.{length}
 use Rattle.text.specs.Bytes.{Text}
 use Rattle.book.specs.Answer.{Answer, refused, given, _>>=_}
 use Rattle.tsconfig.specs.Parsed.{Parsed}
-use Rattle.tsconfig.specs.Claims.{Site, claims}
+use Rattle.tsconfig.specs.Claims.{Site, claims, claimsOwnership}
 use Rattle.tsconfig.specs.Mapping.{candidates, tries}
 use Rattle.tsconfig.specs.Listing.{listing}
 use Rattle.tsconfig_resolver.specs.Line.{flatLine}
@@ -52,7 +52,8 @@ inherits rs c p lt e =
       own-way = r .own-way;
       flattened = q;
       output = λ references. ap (λ t. listing references (t .config)) q;
-      claimed = λ path. ap (λ t. claims path t (p .references)) q;
+      claimed = λ path. ap (claims path) q;
+      claimed-with = λ path. ap (λ t. claimsOwnership path t (p .references)) q;
       mapped-to = λ s. ap (λ t. candidates (t .config) s) q;
       tried = λ dir s. ap (λ t. tries (t .config) dir s) q;
       merged = sym m ∙ r .merged;

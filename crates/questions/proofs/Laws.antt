@@ -13,7 +13,7 @@ use Rattle.text.specs.Text.{sameText, someOf}
 use Rattle.path.specs.Path.{split, leadsDot, pieceOf, heads, components, leftOf, isSome, under, samePath, sameList, names, starts, extension}
 use Rattle.book.specs.Answer.{Answer, refused, given}
 use Rattle.tsconfig.specs.Config.{Field, files, include, exclude}
-use Rattle.tsconfig.specs.Claims.{Site, solutionStyle, isNone, isEmptyList, accepts, namedFile, included, excluded, outside}
+use Rattle.tsconfig.specs.Claims.{Site, solutionStyle, isNone, isEmptyList, claims, namedFile, included, excluded, outside}
 use Rattle.questions.specs.Questions.{Outcome, Reply, fit, output}
 
 same-self : (a : Text) → sameText a a ≡ true
@@ -92,9 +92,9 @@ and-left : (a b : Bool) → a && b ≡ true → a ≡ true
 and-left true b h = refl
 and-left false b h = absurd (false≢true h)
 
--- The test for solution style changes no answer: such a config accepts nothing by itself.
-pub solution-style-idle : (path : Text) (s : Site) (refs : List Site) → solutionStyle s refs ≡ true → accepts path s ≡ false
-unfolding solutionStyle accepts
+-- The test for solution style changes no answer: such a config claims nothing by itself.
+pub solution-style-idle : (path : Text) (s : Site) (refs : List Site) → solutionStyle s refs ≡ true → claims path s ≡ false
+unfolding solutionStyle claims
 solution-style-idle path s refs h =
     let e = and-right (not (isNone refs)) _ h in
     rw (not-listed path (s .config .named files) (and-left (isEmptyList (s .config .named files)) _ e)) (

@@ -5,7 +5,7 @@ use Prim.Native.Nat.{ℕ}
 use Rattle.text.specs.Bytes.{Text}
 use Rattle.tsconfig.specs.Config.{merge}
 use Rattle.tsconfig.specs.Parsed.{Parsed}
-use Rattle.tsconfig.specs.Claims.{Site, claims}
+use Rattle.tsconfig.specs.Claims.{Site, claims, claimsOwnership}
 use Rattle.tsconfig.specs.Mapping.{candidates, tries}
 use Rattle.tsconfig.specs.Listing.{listing}
 use Rattle.tsconfig.specs.Bracket.{Tree, leaves, eval}
@@ -30,8 +30,9 @@ pub record Inherits (rs : List Parsed) (c : ℕ) (p : Project) : Type 1 where
   pub flattened : p .site ≡ flatSite rs c
   -- "the flat config yields the build's whole output"
   pub output : (references : List Text) → listing references (p .site .config) ≡ listing references ((flatSite rs c) .config)
-  -- "whatever path is asked, the loaded config claims it exactly when the flat one does"
-  pub claimed : (path : Text) → claims path (p .site) (p .references) ≡ claims path (flatSite rs c) (p .references)
+  -- "whatever path is asked, the loaded config claims it exactly when the flat one does"; and with the references, as owner asks
+  pub claimed : (path : Text) → claims path (p .site) ≡ claims path (flatSite rs c)
+  pub claimed-with : (path : Text) → claimsOwnership path (p .site) (p .references) ≡ claimsOwnership path (flatSite rs c) (p .references)
   -- "whatever specifier is asked, the candidates are the flat one's, in order"
   pub mapped-to : (s : Text) → candidates (p .site .config) s ≡ candidates ((flatSite rs c) .config) s
   pub tried : (dir s : Text) → tries (p .site .config) dir s ≡ tries ((flatSite rs c) .config) dir s

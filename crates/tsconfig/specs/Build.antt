@@ -11,6 +11,7 @@ use Rattle.tsconfig.specs.Parsed.{Value}
 use Rattle.text.specs.Text.{prefixOf}
 use Rattle.path.specs.Path.{parentOf, pushOf, normalizeWith}
 
+-- a config with its values and its base as texts
 abbrev pub Settings : Type 0
 Settings = Config Value Text
 
@@ -44,6 +45,6 @@ builtValue dir base declarationDir v = substituted dir v
 builtValue dir base (flag id) v = v
 builtValue dir base (text id) v = v
 
--- the config at the path, built
+-- the config at the path, built: "The flat config is built as the core says."
 unfoldable pub built : Text → Settings → Settings
 built path c = mapped (builtValue (parentOf path) (substituted (parentOf path) (c .base))) (substituted (parentOf path)) c

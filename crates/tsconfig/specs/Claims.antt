@@ -1,4 +1,4 @@
--- The file test over a built config, claims, and the solution.
+-- The file test over a built config (is_file_included_in_tsconfig), what a config claims, and the solution.
 use mathlib.Core.List.{List, [], _∷_, _++_}
 use mathlib.Core.Bool.{Bool, true, false, not, _&&_, _||_, cond}
 use mathlib.Core.Option.{Option, some, none, Option·getD}
@@ -17,16 +17,16 @@ pub record Site : Type 0 where
   pub path : Text
   pub config : Settings
 
--- the flag 8 of `CompilerOptions`
+-- the ninth bool field of `CompilerOptions`
 abbrev pub allowJs : Settings → Bool
 allowJs c = Option·getD (c .named (flag 8)) false
 
--- is_file_extension_allowed_in_tsconfig
+-- the extensions that a config takes in: TypeScript's own, and JavaScript's with allowJs. is_file_extension_allowed_in_tsconfig
 unfoldable pub allowed : Settings → Option Text → Bool
 allowed c none = false
 allowed c (some e) = isTsExtension e || (allowJs c && isJsExtension e)
 
--- is_extensionless_or_uncompiled_js
+-- no program's input: no extension, or JavaScript's without allowJs. is_extensionless_or_uncompiled_js
 unfoldable pub outside : Settings → Option Text → Bool
 outside c none = true
 outside c (some e) = not (allowJs c) && isJsExtension e
@@ -44,29 +44,29 @@ isSpecial x = eqb x dot || (eqb x star || eqb x question)
 unfoldable pub implied : Text → Text
 implied p = cond (someOf isSpecial (lastPiece p)) p (p ++ cond (ends slash p) (bytes "**/*") (bytes "/**/*"))
 
--- is_glob_match: equal, or matched, a pattern ending in a star only for the allowed extensions
+-- is_glob_match: "patterns by text", so an equal text matches; a pattern that ends in a star only for the extensions that are taken in
 unfoldable pub matched : Settings → Text → Text → Bool
 matched c path p = sameText p path || ((not (ends star (implied p)) || allowed c (extension path)) && globOf (implied p) path)
 
--- step 3: the include patterns; without them none where files are named, else all below the directory
+-- TSConfig Reference, include: without it nothing where `files` is there, else `**/*`, all below the config's directory
 unfoldable pub included : Site → Text → Option (List Text) → Bool
 included s path (some ps) = someOf (matched (s .config) path) ps
 included s path none =
     not (isSome (s .config .named files)) && (under path (parentOf (s .path)) && allowed (s .config) (extension path))
 
--- step 4
+-- TSConfig Reference, exclude: what include takes in and these match is left out; no default (02, #113)
 unfoldable pub excluded : Site → Text → Option (List Text) → Bool
 excluded s path none = false
 excluded s path (some ps) = someOf (matched (s .config) path) ps
 
--- step 1: "`files` compares by components"
+-- TSConfig Reference, files: the files themselves, whatever exclude says. "`files` compares by components"
 unfoldable pub namedFile : Text → Option (List Text) → Bool
 namedFile path none = false
 namedFile path (some fs) = someOf (λ f. samePath f path) fs
 
--- the core's file test: is_file_included_in_tsconfig
-unfoldable pub accepts : Text → Site → Bool
-accepts path s =
+-- "A config claims a path if the core's file test over its built form accepts it" (claim is 01's term): is_file_included_in_tsconfig
+unfoldable pub claims : Text → Site → Bool
+claims path s =
     namedFile path (s .config .named files)
     || (not (outside (s .config) (extension path))
     && (included s path (s .config .named include) && not (excluded s path (s .config .named exclude))))
@@ -84,11 +84,11 @@ isNone (r ∷ rs) = false
 unfoldable pub solutionStyle : Site → List Site → Bool
 solutionStyle s refs = not (isNone refs) && (isEmptyList (s .config .named files) && isEmptyList (s .config .named include))
 
--- claims_ownership_of
-unfoldable pub claims : Text → Site → List Site → Bool
-claims path s refs = someOf (accepts path) refs || (not (solutionStyle s refs) && accepts path s)
+-- claims_ownership_of: a reference that claims the path counts for the config that holds it
+unfoldable pub claimsOwnership : Text → Site → List Site → Bool
+claimsOwnership path s refs = someOf (claims path) refs || (not (solutionStyle s refs) && claims path s)
 
--- resolve_tsconfig_solution: the first reference that accepts the path, else the config itself
+-- The solution (01's term), resolve_tsconfig_solution: the first reference that claims the path, else the config itself
 unfoldable pub solution : Text → Site → List Site → ℕ
 solution path s [] = s .number
-solution path s (r ∷ rs) = cond (accepts path r) (r .number) (solution path s rs)
+solution path s (r ∷ rs) = cond (claims path r) (r .number) (solution path s rs)

@@ -15,7 +15,7 @@ use Rattle.keys.specs.Keys.{keyPart, isMatch}
 use Rattle.path.specs.Path.{starts, samePath, under, stripPrefix, insideNodeModules, normalizeWith}
 use Rattle.tsconfig.specs.Build.{Settings}
 
--- "An equal key wins, empty or not."
+-- "An equal key wins, empty or not": with or without targets
 unfoldable pub equalKey : Text → List Key → Option Key
 equalKey s [] = none
 equalKey s (k ∷ ks) = cond (sameText (k .key) s) (some k) (equalKey s ks)
@@ -29,12 +29,13 @@ unfoldable pub longer : Option Key → Key → Bool
 longer none k = true
 longer (some b) k = ltb (prefixLen (starOf (b .key))) (prefixLen (starOf (k .key)))
 
--- the matching key with the longest prefix, of equal ones the earliest; b is the best so far
+-- Modules Reference, paths: of the patterns that match, the one with the longest prefix before its star; of equal ones the earliest. b is the best
+-- so far. "A key without a star is passed over among wildcards"
 unfoldable pub bestKey : Text → Option Key → List Key → Option Key
 bestKey s b [] = b
 bestKey s b (k ∷ ks) = bestKey s (cond (isMatch (keyPart (k .key) s) && longer b k) (some k) b) ks
 
--- the first star of a target filled
+-- Modules Reference, paths: what the star of the key stood for is put in for the star of the target, its first
 unfoldable pub filledAt : Found → Text → Text → Text
 filledAt Nothing part t = t
 filledAt (At i) part t = take i t ++ (part ++ drop (suc i) t)
@@ -42,10 +43,12 @@ filledAt (At i) part t = take i t ++ (part ++ drop (suc i) t)
 unfoldable pub filled : Text → Text → Text
 filled part t = filledAt (starOf t) part t
 
+-- the targets of the key chosen among the wildcards, each filled; a key without targets gives none, and no other key is looked at
 unfoldable pub fromBest : Text → Option Key → List Text
 fromBest s none = []
 fromBest s (some k) = map (filled (Option·getD (keyPart (k .key) s) [])) (k .targets)
 
+-- the targets of an equal key as they are, else those of the best wildcard
 unfoldable pub fromEqual : Text → List Key → Option Key → List Text
 fromEqual s ks (some k) = k .targets
 fromEqual s ks none = fromBest s (bestKey s none ks)
@@ -54,11 +57,11 @@ unfoldable pub fromPaths : Text → Option (List Key) → List Text
 fromPaths s none = []
 fromPaths s (some ks) = fromEqual s ks (equalKey s ks)
 
--- resolve_path_alias: "A key `./x` or `.*` never maps"
+-- resolve_path_alias: a specifier that starts with a dot is not mapped
 unfoldable pub aliases : Settings → Text → List Text
 aliases c s = cond (starts dot s) [] (fromPaths s (c .named paths))
 
--- resolve_base_url
+-- TSConfig Reference, baseUrl: the specifier read from it. resolve_base_url, from the config's base
 unfoldable pub fromBaseUrl : Settings → Text → Option Text → List Text
 fromBaseUrl c s none = []
 fromBaseUrl c s (some u) = normalizeWith (c .base) s ∷ []
@@ -67,7 +70,7 @@ unfoldable pub orIfNone : List Text → List Text → List Text
 orIfNone [] other = other
 orIfNone (x ∷ xs) other = x ∷ xs
 
--- resolve_path_alias_or_base_url: the baseUrl path only where the mapping gave nothing
+-- "Candidates are `resolve_path_alias_or_base_url`'s list": the baseUrl path only where the mapping gave nothing
 unfoldable pub candidates : Settings → Text → List Text
 candidates c s = orIfNone (aliases c s) (fromBaseUrl c s (c .named baseUrl))
 
@@ -80,7 +83,7 @@ unfoldable pub rootAbove : Text → Option Text → List Text → Option Text
 rootAbove p b [] = b
 rootAbove p b (r ∷ rs) = rootAbove p (cond (under p r && longerText b r) (some r) b) rs
 
--- the rest of the candidate in each other root dir
+-- TSConfig Reference, rootDirs: the rest of the path in each other root dir; those equal by components are the same one
 unfoldable pub inRoots : Text → Option Text → List Text → List Text
 inRoots m none rs = []
 inRoots m (some l) [] = []
@@ -95,7 +98,7 @@ unfoldable pub rootTries : Text → Option (List Text) → List Text
 rootTries p none = []
 rootTries p (some rs) = fromRoot p rs (rootAbove p none rs)
 
--- "Tries: the paths that `resolve_tsconfig_compiler_options` would test from a given directory, in order; none inside `node_modules`."
+-- "Tries (01's term): the paths that `resolve_tsconfig_compiler_options` would test from a given directory, in order; none inside `node_modules`."
 unfoldable pub tries : Settings → Text → Text → List Text
 tries c dir s =
     cond (insideNodeModules dir) []

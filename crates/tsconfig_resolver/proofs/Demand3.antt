@@ -53,6 +53,8 @@ module _ {Val : Field → Type 0} {B : Type 0} (b : Configs Val B) where
       let e : r .config ≡ flatLine b c = w .flattened in
       record {
         unrolled = w .unrolled;
+        acyclic = w .acyclic;
+        settled = w .settled;
         field = λ f. ap (λ d. d .named f) e ∙ flat-field c f;
         base = ap (λ d. d .base) e ∙ flat-base c;
         bracketed = λ v l. bracket (b .own c) (map (b .own) (above b c)) v l ∙ sym e;

@@ -6,7 +6,7 @@ use mathlib.Core.Path.{_≡_, refl, sym, ap, ap₂, _∙_, subst}
 use mathlib.Core.List.{List, [], _∷_, _++_, map, reverse, append-nil, append-assoc, List·Memᴰ, List·Memᴰ·head, List·Memᴰ·tail}
 use mathlib.Core.Bool.{Bool, true, false, _||_, cond, or-assoc, or-false, true≢false, false≢true}
 use mathlib.Core.Option.{Option, some, none}
-use Prim.Native.Nat.{ℕ, zero, suc, _+_, _<_}
+use Prim.Native.Nat.{ℕ, zero, suc, _+_, _<_, _≤_}
 use native.Mathlib.Omega.{arith}
 use borrow.Author.Tests.{eqb-true, eq-eqb, ne-eqb}
 use lib.Dec.{eqb}
@@ -25,6 +25,7 @@ use Rattle.tsconfig_resolver.specs.Line.{
   elem,
   tally,
   parents,
+  rest,
   above,
   line,
   flatLine,
@@ -33,7 +34,7 @@ use Rattle.tsconfig_resolver.specs.Line.{
 use Rattle.tsconfig_resolver.specs.Load.{State, Loaded, done, add, unread, recall, put, counted, start, walk, refusal, fresh, free, loadBy, load, loadAsked}
 use Rattle.tsconfig.proofs.Flat.{flat-append, flat-one}
 use Rattle.tsconfig_resolver.proofs.Tally.{elem-head, elem-append, tally-ext, tally-none, tally-le, tally-add, tally-distinct}
-use Rattle.tsconfig_resolver.proofs.Line.{Within, within-more, rest-step, rest-below}
+use Rattle.tsconfig_resolver.proofs.Line.{Within, within-more, rest-same, rest-step, rest-below, no-circle}
 
 -- Tests and options.
 
@@ -302,6 +303,8 @@ module _ {Val : Field → Type 0} {B : Type 0} (b : Configs Val B) where
     pub values : (i : ℕ) (x : Config Val B) → r .state .table i ≡ some x → x ≡ flatLine b i
     pub counted : r .state .merges ≡ entriesOf b (line b c)
     pub unrolled : (i : ℕ) → elem i (line b c) ≡ true → line b i ≡ i ∷ lines (above b) (parents b i)
+    pub acyclic : (i : ℕ) → elem i (line b c) ≡ true → elem i (above b i) ≡ false
+    pub settled : (i k : ℕ) → elem i (line b c) ≡ true → b .size ≤ k → rest b k i ≡ above b i
 
   module _ (inside : (c p : ℕ) → List·Memᴰ p (parents b c) → p < b .size) where
     -- the record c, off the chain and not in the table, where `one` loads its parents
@@ -334,6 +337,8 @@ module _ {Val : Field → Type 0} {B : Type 0} (b : Configs Val B) where
     whole c r lt q =
         let (e, st) = load-step (free b (λ i. false)) (λ i. false) c start r lt start-sound (λ i m. absurd (false≢true m)) refl q in
         let weight : ℕ → ℕ = λ i. length (b .entries i) in
+        let few : held (r .state .table) ≤ b .size = tally-le (b .size) (λ i. has (r .state .table i)) in
+        let short : (i : ℕ) → elem i (line b c) ≡ true → Within b (held (r .state .table)) i = λ i m. st .sound .short i (st .domain i ∙ m) in
         record {
           flattened = e;
           members = st .domain;
@@ -346,8 +351,9 @@ module _ {Val : Field → Type 0} {B : Type 0} (b : Configs Val B) where
                 tally-ext (b .size) weight {d = λ i. has (r .state .table i)} {e = λ i. elem i (line b c)} (st .domain),
                 tally-distinct (b .size) weight (line b c) (lt, rest-below b inside (b .size) c),
               );
-          unrolled =
-              λ i m. ap (i ∷_)
-              (rest-step b (held (r .state .table)) (b .size) i (tally-le (b .size) (λ i. has (r .state .table i)))
-              (st .sound .short i (st .domain i ∙ m)));
+          unrolled = λ i m. ap (i ∷_) (rest-step b (held (r .state .table)) (b .size) i few (short i m));
+          acyclic = λ i m. no-circle b (held (r .state .table)) (b .size) i (short i m);
+          settled =
+              λ i k m le. rest-same b (held (r .state .table)) k i (omega arith) (short i m)
+              ∙ sym (rest-same b (held (r .state .table)) (b .size) i few (short i m));
         }

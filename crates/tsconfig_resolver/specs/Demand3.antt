@@ -1,9 +1,9 @@
 -- Demand 3: what holds where a config loads without refusal.
 use mathlib.Core.Path.{_≡_}
 use mathlib.Core.List.{List, [], _∷_, map}
-use mathlib.Core.Bool.{true}
+use mathlib.Core.Bool.{true, false}
 use mathlib.Core.Option.{Option, some, Option·getD}
-use Prim.Native.Nat.{ℕ, zero, suc}
+use Prim.Native.Nat.{ℕ, zero, suc, _≤_}
 use Rattle.tsconfig.specs.Config.{Field, baseUrl, paths, Config, first, last, baseIf, merge}
 use Rattle.tsconfig.specs.Bracket.{Tree, leaf, join, leaves, eval}
 use Rattle.tsconfig_resolver.specs.Line.{Configs, lines, elem, parents, rest, above, line, flatLine, entriesOf}
@@ -23,6 +23,9 @@ module _ {Val : Field → Type 0} {B : Type 0} (b : Configs Val B) where
   pub record LineRule (c : ℕ) (r : Loaded Val B) : Type 1 where
     -- its line is itself, then the line of the last config it extends, and so on back to the first; so is each line in it
     pub unrolled : (i : ℕ) → elem i (line b c) ≡ true → line b i ≡ i ∷ lines (above b) (parents b i)
+    -- the line is well defined: no config of it stands above itself, and it is the same however far it is followed
+    pub acyclic : (i : ℕ) → elem i (line b c) ≡ true → elem i (above b i) ≡ false
+    pub settled : (i k : ℕ) → elem i (line b c) ≡ true → b .size ≤ k → rest b k i ≡ above b i
     -- each inherited field is that of the first in the line to name it
     pub field : (f : Field) → r .config .named f ≡ first (λ i. (b .own i) .named f) (line b c)
     -- the base is that of the first naming baseUrl, else of the first naming paths, else of the last in the line

@@ -13,7 +13,7 @@ use Rattle.path.specs.Path.{parentOf, pushOf, components, insideNodeModules}
 use Rattle.tsconfig.specs.Config.{mapped}
 use Rattle.tsconfig.specs.Parsed.{Parsed}
 use Rattle.tsconfig.specs.Build.{Settings, built}
-use Rattle.tsconfig.specs.Claims.{Site, claims, solution}
+use Rattle.tsconfig.specs.Claims.{Site, claimsOwnership, solution}
 use Rattle.tsconfig_resolver.specs.Find.{Supplied, SuppliedValue, find, locate, recordAt, pathAt, means, seen}
 
 -- a config as the load merges it
@@ -83,7 +83,7 @@ folders (suc k) d = d ∷ folders k (parentOf d)
 
 unfoldable pub owned : Text → Project → Answer (Option Owner) → Answer (Option Owner)
 owned path p above =
-    cond (claims path (p .site) (p .references))
+    cond (claimsOwnership path (p .site) (p .references))
     (given (some (record { found = p .site .number; solved = solution path (p .site) (p .references) }))) above
 
 unfoldable pub ownerAt : List Parsed → Text → Option ℕ → Answer (Option Owner) → Answer (Option Owner)
