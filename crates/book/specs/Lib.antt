@@ -3,3 +3,4 @@ pub mod Command
 pub mod Rules
 pub mod Record
 pub mod Book
+pub mod Find

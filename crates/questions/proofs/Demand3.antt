@@ -6,6 +6,7 @@ use Prim.Native.Nat.{ℕ, suc, _<_}
 use native.Mathlib.Omega.{arith}
 use lib.ListN.{length}
 use Rattle.text.specs.Bytes.{Text}
+use Rattle.book.specs.Find.{locate}
 use Rattle.book.specs.Answer.{Answer, refused, given, _>>=_}
 use Rattle.tsconfig.specs.Parsed.{Parsed}
 use Rattle.tsconfig.specs.Claims.{Site, claims, claimsOwnership}
@@ -13,10 +14,10 @@ use Rattle.tsconfig.specs.Mapping.{candidates, tries}
 use Rattle.tsconfig.specs.Listing.{listing}
 use Rattle.tsconfig_resolver.specs.Line.{flatLine}
 use Rattle.tsconfig_resolver.specs.Load.{Loaded, loadAsked}
-use Rattle.tsconfig_resolver.specs.Find.{Supplied, SuppliedValue, find, configPath, locate, recordAt, reached, seen}
+use Rattle.tsconfig_resolver.specs.Find.{Supplied, SuppliedValue, recordAt, pathsOf, reached, seen}
 use Rattle.tsconfig_resolver.specs.Project.{Project, siteAt, referencesOf, loadRecord, loadFound, loadPath}
 use Rattle.tsconfig_resolver.proofs.Demand3.{line-rule}
-use Rattle.tsconfig_resolver.proofs.Inside.{Fits, find-below}
+use Rattle.tsconfig_resolver.proofs.Inside.{Fits, locate-below}
 use Rattle.questions.specs.Questions.{book}
 use Rattle.questions.specs.Demand3.{flatSite, Inherits}
 
@@ -60,16 +61,16 @@ inherits rs c p lt e =
     }
 
 -- the same of an asked path
-pub inherits-asked : (rs : List Parsed) (path : Text) (p : Project) → loadPath rs path ≡ given p → (c : ℕ) × (locate rs path ≡ some c) × Inherits rs c p
-unfolding loadPath loadFound locate
-inherits-asked rs path p e = go (locate rs path) refl e
+pub inherits-asked : (rs : List Parsed) (path : Text) (p : Project) → loadPath rs path ≡ given p → (c : ℕ) × (locate (pathsOf rs) path ≡ some c) × Inherits rs c p
+unfolding loadPath loadFound
+inherits-asked rs path p e = go (locate (pathsOf rs) path) refl e
   where
-    go : (o : Option ℕ) → locate rs path ≡ o → loadFound rs o ≡ given p → (c : ℕ) × (locate rs path ≡ some c) × Inherits rs c p
+    go : (o : Option ℕ) → locate (pathsOf rs) path ≡ o → loadFound rs o ≡ given p → (c : ℕ) × (locate (pathsOf rs) path ≡ some c) × Inherits rs c p
     go none h e = absurd (refused-given e)
-    go (some c) h e = (c, h, inherits rs c p (subst (λ o. Fits (length rs) (reached o)) h (find-below (configPath rs path) rs)) e)
+    go (some c) h e = (c, h, inherits rs c p (subst (λ o. Fits (length rs) (reached o)) h (locate-below rs path)) e)
 
 -- Demand 3, from the lent bytes on: for every book that is accepted and every asked path, if the load gives an answer.
 pub demand-3 :
     (commands text path : Text) (rs : List Parsed) (p : Project) → book commands text ≡ given rs → loadPath rs path ≡ given p →
-    (c : ℕ) × (locate rs path ≡ some c) × Inherits rs c p
+    (c : ℕ) × (locate (pathsOf rs) path ≡ some c) × Inherits rs c p
 demand-3 commands text path rs p accepted loaded = inherits-asked rs path p loaded

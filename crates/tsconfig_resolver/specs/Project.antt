@@ -4,6 +4,7 @@ use mathlib.Core.Bool.{Bool, true, false, cond}
 use mathlib.Core.Option.{Option, some, none}
 use Prim.Native.Nat.{ℕ, zero, suc, _-_}
 use lib.ListN.{length}
+use Rattle.book.specs.Find.{find, locate}
 use Rattle.book.specs.Answer.{Answer, refused, given, _>>=_}
 use Rattle.tsconfig.specs.Config.{Field, Config}
 use Rattle.tsconfig_resolver.specs.Load.{Loaded, State, loadAsked}
@@ -14,7 +15,7 @@ use Rattle.tsconfig.specs.Config.{mapped}
 use Rattle.tsconfig.specs.Parsed.{Parsed}
 use Rattle.tsconfig.specs.Build.{Settings, built}
 use Rattle.tsconfig.specs.Claims.{Site, claimsOwnership, solution}
-use Rattle.tsconfig_resolver.specs.Find.{Supplied, SuppliedValue, find, locate, recordAt, pathAt, means, seen}
+use Rattle.tsconfig_resolver.specs.Find.{Supplied, SuppliedValue, recordAt, pathAt, pathsOf, meant, seen}
 
 -- a config as the load merges it
 abbrev pub Merged : Type 0
@@ -52,7 +53,7 @@ referTo rs c (some r) s = do
 unfoldable pub referencesOf : List Parsed → ℕ → List Text → Store → Answer (List Site)
 referencesOf rs c [] s = given []
 referencesOf rs c (t ∷ ts) s = do
-  x ← referTo rs c (find (means rs c t) rs) s
+  x ← referTo rs c (meant rs c t) s
   more ← referencesOf rs c ts (x .state)
   given (x .site ∷ more)
 
@@ -69,7 +70,7 @@ loadFound rs none = refused 8 65535
 loadFound rs (some c) = loadRecord rs c
 
 unfoldable pub loadPath : List Parsed → Text → Answer Project
-loadPath rs p = loadFound rs (locate rs p)
+loadPath rs p = loadFound rs (locate (pathsOf rs) p)
 
 -- found and solution
 pub record Owner : Type 0 where
@@ -95,7 +96,7 @@ ownerAt rs path (some c) above = do
 -- find_tsconfig_auto: "with a fresh resolver per config on the finder's walk"
 unfoldable pub ownerFrom : List Parsed → Text → List Text → Answer (Option Owner)
 ownerFrom rs path [] = given none
-ownerFrom rs path (d ∷ ds) = ownerAt rs path (find (pushOf d (tsconfigJson)) rs) (ownerFrom rs path ds)
+ownerFrom rs path (d ∷ ds) = ownerAt rs path (find (pushOf d tsconfigJson) (pathsOf rs)) (ownerFrom rs path ds)
 
 -- "If the `path` is inside `node_modules`, this function always returns `None`."
 unfoldable pub ownerOf : List Parsed → Text → Answer (Option Owner)
