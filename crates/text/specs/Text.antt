@@ -72,3 +72,13 @@ between a e s = take (e - a) (drop a s)
 abbrev pub partOf : Text → Part → Option Text
 partOf s (Span a e) = some (between a e s)
 partOf s Missing = none
+
+-- what stands before the first b, all of it where there is none
+unfoldable pub beforeByte : ℕ → Text → Text
+beforeByte b [] = []
+beforeByte b (x ∷ s) = cond (eqb x b) [] (x ∷ beforeByte b s)
+
+-- what stands after the first b, nothing where there is none
+unfoldable pub afterByte : ℕ → Text → Text
+afterByte b [] = []
+afterByte b (x ∷ s) = cond (eqb x b) s (afterByte b s)

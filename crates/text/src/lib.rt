@@ -4,7 +4,7 @@ ghost use mathlib.Core.List.{[], _∷_};
 ghost use Prim.Native.Nat.{_<_};
 ghost use lib.ListN.{length, take, drop};
 ghost use Rattle.text.specs.Bytes.{configDir, nodeModules, tsconfigJson, json};
-ghost use Rattle.text.specs.Text.{prefixOf, sameText, someOf, isTsExtension, isJsExtension, find, starOf, findLast, between};
+ghost use Rattle.text.specs.Text.{prefixOf, sameText, someOf, isTsExtension, isJsExtension, find, starOf, findLast, between, beforeByte, afterByte};
 ghost use Rattle.text.specs.Emit.{Room, Emits};
 
 pub const SLASH: u8 = b'/';
@@ -170,6 +170,26 @@ pub fn between(s: &[u8], a: usize, e: usize) -> &[u8]
         return &s[..0];
     }
     upto(from(s, a), e - a)
+}
+
+// The bytes of s before the first b, or all of it where there is none.
+pub fn before(s: &[u8], b: u8) -> &[u8]
+    ensures { λ r. ⌜ now r ≡ beforeByte b (now (s .entry)) ⌝ }
+{
+    let Found::At(i) = find_byte(s, b) else {
+        return s;
+    };
+    upto(s, i)
+}
+
+// The bytes of s after the first b, or none where there is none.
+pub fn after(s: &[u8], b: u8) -> &[u8]
+    ensures { λ r. ⌜ now r ≡ afterByte b (now (s .entry)) ⌝ }
+{
+    let Found::At(i) = find_byte(s, b) else {
+        return upto(s, 0);
+    };
+    from(s, i + 1)
 }
 
 // Writes b at `at` where the output reaches so far, and counts it.
