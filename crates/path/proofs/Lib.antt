@@ -1,2 +1,7 @@
 -- Laws of the definitions of specs/.
 pub mod Pieces
+pub mod Ends
+pub mod Parents
+pub mod Buffer
+pub mod Walk
+pub mod Cases

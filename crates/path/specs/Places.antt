@@ -2,9 +2,9 @@
 use Prim.Native.Nat.{ℕ, zero, suc, _+_}
 use mathlib.Core.Path.{_≡_}
 use mathlib.Core.List.{List, [], _∷_}
-use mathlib.Core.Bool.{cond}
+use mathlib.Core.Bool.{Bool, cond}
 use lib.ListN.{length, take, drop}
-use Rattle.text.specs.Bytes.{Text}
+use Rattle.text.specs.Bytes.{Text, slash}
 use Rattle.text.specs.Text.{sameText}
 use Rattle.text.specs.declared.Found.{Found}
 use Rattle.text.specs.declared.Found.the-variants.{At, Nothing}
@@ -36,3 +36,7 @@ leftAt at (p ∷ ps) (c ∷ cs) =
 pub record Holds (r : ℕ) (out text : Text) : Type 0 where
   pub size : r ≡ length text
   pub bytes : take r out ≡ text
+
+-- a slash where it is asked for
+abbrev pub slashIf : Bool → Text
+slashIf b = cond b (slash ∷ []) []
