@@ -3,10 +3,10 @@
 use libc::STDIN_FILENO;
 use libc::STDOUT_FILENO;
 use text::Found;
-use text::after;
-use text::before;
 use text::find_star;
 use text::from;
+use text::part_after;
+use text::part_before;
 use text::upto;
 
 const LINE_END: u8 = 0x0A;
@@ -25,7 +25,7 @@ fn say_filled(target: &[u8], piece: &[u8]) {
     };
     io::write_all(STDOUT_FILENO, upto(target, star));
     io::write_all(STDOUT_FILENO, piece);
-    say(after(from(target, star), text::STAR));
+    say(part_after(from(target, star), text::STAR));
 }
 
 // The target read from the base, filled with the piece that the star of the key stood for.
@@ -53,13 +53,13 @@ fn main() {
     let mut input = io::buffer();
     let n = io::read_full(STDIN_FILENO, &mut input);
     let base = upto(&input, n);
-    let key = after(base, LINE_END);
-    let target = after(key, LINE_END);
-    let specifier = after(target, LINE_END);
+    let key = part_after(base, LINE_END);
+    let target = part_after(key, LINE_END);
+    let specifier = part_after(target, LINE_END);
     map(
-        before(base, LINE_END),
-        before(key, LINE_END),
-        before(target, LINE_END),
-        before(specifier, LINE_END),
+        part_before(base, LINE_END),
+        part_before(key, LINE_END),
+        part_before(target, LINE_END),
+        part_before(specifier, LINE_END),
     );
 }

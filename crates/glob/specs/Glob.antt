@@ -1,4 +1,5 @@
--- What a pattern matches. A pattern is read as tokens; each token says how much of the path it takes.
+-- What a pattern matches: "`?` is one byte but `/`; `*` a run without `/`, perhaps empty; `**` any number of components, one or more where
+-- last. A leading dot is ordinary." A pattern is read as tokens; each token says how much of the path it takes.
 use Prim.Native.Nat.{ℕ, zero, suc}
 use mathlib.Core.List.{List, [], _∷_}
 use mathlib.Core.Bool.{Bool, true, false, not, _&&_, _||_, cond}
@@ -6,18 +7,18 @@ use lib.Dec.{eqb}
 use Rattle.text.specs.Bytes.{Text, slash, star, question}
 
 pub data Token : Type 0 where
-  -- a byte that stands for itself: "A leading dot is ordinary."
+  -- a byte that stands for itself, a dot too: "A leading dot is ordinary."
   Byte : ℕ → Token
-  -- "`?` is one byte but `/`"
+  -- `?`
   One : Token
-  -- "`*` a run without `/`, perhaps empty"
+  -- `*`
   Run : Token
-  -- `**/`: "`**` any number of components"
+  -- `**/`
   Dirs : Token
-  -- `**` at the end of the pattern: "one or more where last"
+  -- `**`, where last
   Rest : Token
 
--- two stars are a `**` where nothing or a slash follows; p is what follows them
+-- what two stars begin: `**` where last, or `**/`; p is what follows them ("two adjacent stars are a whole component")
 unfoldable pub afterStars : Text → Token
 afterStars [] = Rest
 afterStars (e ∷ p) = cond (eqb e slash) Dirs Run
@@ -45,30 +46,34 @@ tokens k [] = []
 tokens zero (c ∷ p) = tokenAt c p ∷ tokens (more (tokenAt c p)) p
 tokens (suc k) (c ∷ p) = tokens k p
 
+-- nothing is left of a path
 abbrev pub isEmpty : Text → Bool
 isEmpty [] = true
 isEmpty (x ∷ s) = false
 
+-- a byte that ends a component
 abbrev pub isSlash : ℕ → Bool
 isSlash x = eqb x slash
 
+-- a byte of a component: "but `/`", "without `/`"
 abbrev pub noSlash : ℕ → Bool
 noSlash x = not (eqb x slash)
 
+-- every byte
 abbrev pub anyByte : ℕ → Bool
 anyByte x = true
 
--- one byte of which ok holds, and then P
+-- "one byte", of which ok holds, and then P
 unfoldable pub eat : (ℕ → Bool) → (Text → Bool) → Text → Bool
 eat ok P [] = false
 eat ok P (x ∷ s) = ok x && P s
 
--- P after some bytes, perhaps none, of which ok holds
+-- "a run", "perhaps empty", of bytes of which ok holds, and then P
 unfoldable pub after : (ℕ → Bool) → (Text → Bool) → Text → Bool
 after ok P [] = P []
 after ok P (x ∷ s) = P (x ∷ s) || (ok x && after ok P s)
 
--- P here, or after some slash: after any number of components
+-- "any number of components", none too, and then P: P here, or after some slash
 unfoldable pub afterDirs : (Text → Bool) → Text → Bool
 afterDirs P s = P s || after anyByte (eat isSlash P) s
 
@@ -76,9 +81,13 @@ afterDirs P s = P s || after anyByte (eat isSlash P) s
 unfoldable pub matchTokens : List Token → Text → Bool
 matchTokens [] s = isEmpty s
 matchTokens (Byte c ∷ ts) s = eat (λ x. eqb x c) (matchTokens ts) s
+-- "`?` is one byte but `/`"
 matchTokens (One ∷ ts) s = eat noSlash (matchTokens ts) s
+-- "`*` a run without `/`, perhaps empty"
 matchTokens (Run ∷ ts) s = after noSlash (matchTokens ts) s
+-- "`**` any number of components"
 matchTokens (Dirs ∷ ts) s = afterDirs (matchTokens ts) s
+-- "one or more where last": something is left
 matchTokens (Rest ∷ ts) s = not (isEmpty s)
 
 -- the pattern p matches the whole of the path s

@@ -29,6 +29,13 @@ pub joint-size : (s : Text) → length (joint s) ≤ 1
 unfolding joint
 joint-size s = by-test (eqb (length s) 0) (λ t. rw t (omega arith)) (λ f. rw f (by-test (eqb (getD s (length s - 1) 0) slash) (λ t. rw t (omega arith)) (λ g. rw g (omega arith))))
 
+-- a joined path is longer than its two parts by at most the slash
+pub join-size : (base sub : Text) → length (joinOf base sub) ≤ length base + 1 + length sub
+unfolding joinOf pushOf
+join-size base sub =
+    by-test (starts slash sub) (λ t. rw t (omega arith))
+    (λ f. rw f (omega (arith, length-append base (joint base ++ sub), length-append (joint base) sub, joint-size base)))
+
 -- what is written where it fits
 
 -- the first n bytes are a text, and stay it

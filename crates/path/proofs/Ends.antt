@@ -1,207 +1,285 @@
--- Laws of a text's last piece and its last component. Assumes nothing.
+-- Laws of a text's last piece and of its pieces up to the last component. Assumes nothing.
 use mathlib.Core.Path.{_≡_, refl, sym, ap, _∙_}
-use mathlib.Core.Logic.{_⊎_, inl, inr, ⊎-elim}
-use mathlib.Core.List.{List, [], _∷_, _++_, append-assoc, append-nil}
-use mathlib.Core.Bool.{Bool, true, false, cond}
-use Prim.Native.Nat.{ℕ, suc, _+_, _-_, _≤_, _<_}
+use mathlib.Core.List.{List, [], _∷_, _++_}
+use mathlib.Core.Bool.{Bool, true, false, _&&_, cond}
+use Prim.Native.Nat.{ℕ, zero, suc, _+_, _-_, _≤_, _<_}
 use native.Mathlib.Omega.{arith}
-use native.Mathlib.Nat.{add-zero}
 use native.Mathlib.Numerals.{add-one}
-use lib.ListN.{length, take, drop, length-append, length-drop}
-use lib.Seq.{take-all, take-take, take-append-seam, length-take-le}
+use native.Mathlib.Nat.{add-zero, add-suc, suc-add}
+use lib.ListN.{length, take, drop, getD, length-append, length-take, length-drop, drop-of-length-le}
+use lib.Seq.{length-take-le, take-all, take-nil, take-take, drop-drop, split-at, take-append-seam, take-append-add}
 use lib.Dec.{eqb}
-use borrow.Author.Tests.{eqb-true}
+use borrow.Author.Tests.{eqb-true, eqb-false}
 use Rattle.text.specs.Bytes.{Text, slash}
-use Rattle.text.specs.Text.{findLastFrom, findLast, between}
+use Rattle.text.specs.Text.{findLastFrom, findLast, between, eachOf}
 use Rattle.text.specs.declared.Found.{Found}
 use Rattle.text.specs.declared.Found.the-variants.{At, Nothing}
-use Rattle.path.specs.Path.{onFirst, split, pieceOf, isSkip, joined, ending, trimEnd, allButLast}
+use Rattle.path.specs.Path.{onFirst, split, pieceOf, isSkip, joined, ending, trimEnd, allButLast, lastOf, lastPiece}
 use Rattle.path.proofs.Pieces.{by-test}
 
 pub never : {A : Type 0} → ⊥ → A
 never z = absurd z
 
--- pieces one after the other
+pub both-left : (a b : Bool) → (a && b) ≡ true → a ≡ true
+both-left true b h = refl
+both-left false b h = h
 
-first-some : (x : ℕ) (ps : List Text) → 0 < length (onFirst x ps)
+pub both-right : (a b : Bool) → (a && b) ≡ true → b ≡ true
+both-right true b h = h
+both-right false b h = let z : _≡_ {A = ℕ} 0 1 = cc in never (omega arith)
+
+-- A part of a part
+
+pub drop-take : {A : Type 0} (k n : ℕ) (l : List A) → drop k (take n l) ≡ take (n - k) (drop k l)
+drop-take zero n l = let z : n - 0 ≡ n = omega arith in rw z
+drop-take (suc k) zero l = let z : 0 - suc k ≡ 0 = omega arith in rw z
+drop-take (suc k) (suc n) [] = sym (take-nil (suc n - suc k))
+drop-take (suc k) (suc n) (x ∷ l) = let z : suc n - suc k ≡ n - k = omega arith in rw z (drop-take k n l)
+
+pub between-later : (s : Text) (a e k : ℕ) → drop k (between a e s) ≡ between (a + k) e s
+between-later s a e k = let z : e - a - k ≡ e - (a + k) = omega arith in drop-take k (e - a) (drop a s) ∙ rw (drop-drop k a s, z)
+
+pub between-less : (s : Text) (a e k : ℕ) → k ≤ e - a → take k (between a e s) ≡ between a (a + k) s
+between-less s a e k h = let z : a + k - a ≡ k = omega arith in rw z (take-take k (e - a) (drop a s) h)
+
+-- The last place of a byte: after it the byte does not stand
+
+unfoldable pub lacks : ℕ → Text → Bool
+lacks b [] = true
+lacks b (x ∷ s) = cond (eqb x b) false (lacks b s)
+
+data LastIs (b : ℕ) (s : Text) (f : Found) (j : ℕ) (r : Found) : Type 0 where
+  keeps : r ≡ f → lacks b s ≡ true → LastIs b s f j r
+  finds : (i : ℕ) → r ≡ At (j + i) → i < length s → getD s i 0 ≡ b → lacks b (drop (suc i) s) ≡ true → LastIs b s f j r
+
+last-step : (b x : ℕ) (s : Text) (f : Found) (j : ℕ) (r : Found) (t : Bool) → eqb x b ≡ t → LastIs b s (cond t (At j) f) (suc j) r → LastIs b (x ∷ s) f j r
+unfolding lacks
+last-step b x s f j r true e (keeps p l) = finds 0 (rw add-zero p) (omega arith) (eqb-true x b e) l
+last-step b x s f j r false e (keeps p l) = keeps p (rw e l)
+last-step b x s f j r t e (finds i p h g l) = finds (suc i) (rw (add-suc, ← suc-add) p) (omega arith) g l
+
+last-is : (b : ℕ) (s : Text) (f : Found) (j : ℕ) → LastIs b s f j (findLastFrom b f j s)
+unfolding findLastFrom lacks
+last-is b [] f j = keeps refl refl
+last-is b (x ∷ s) f j = last-step b x s f j _ (eqb x b) refl (last-is b s (cond (eqb x b) (At j) f) (suc j))
+
+module _ (b : ℕ) (s : Text) where
+  pub last-lacks : Nothing ≡ findLast b s → lacks b s ≡ true
+  last-lacks e = go (last-is b s Nothing 0)
+    where
+      go : LastIs b s Nothing 0 (findLast b s) → lacks b s ≡ true
+      go (keeps p l) = l
+      go (finds i p h g l) = let z : _≡_ {A = ℕ} 0 1 = cc in never (omega arith)
+
+  module _ (i : ℕ) (e : At i ≡ findLast b s) where
+    last-at : (i < length s) × ((getD s i 0 ≡ b) × (lacks b (drop (suc i) s) ≡ true))
+    last-at = go (last-is b s Nothing 0)
+      where
+        go : LastIs b s Nothing 0 (findLast b s) → (i < length s) × ((getD s i 0 ≡ b) × (lacks b (drop (suc i) s) ≡ true))
+        go (keeps p l) = let z : _≡_ {A = ℕ} 0 1 = cc in never (omega arith)
+        go (finds k p h g l) = let q : i ≡ 0 + k = cc in let z : i ≡ k = omega arith in rw z (h, (g, l))
+
+    pub last-within : i < length s
+    last-within = last-at .0
+
+-- Pieces of a text put together
+
+on-first-some : (x : ℕ) (ps : List Text) → 0 < length (onFirst x ps)
 unfolding onFirst
-first-some x [] = omega arith
-first-some x (p ∷ ps) = omega arith
+on-first-some x [] = omega arith
+on-first-some x (p ∷ ps) = omega arith
 
-pub split-some : (s : Text) → 0 < length (split s)
+split-some : (s : Text) → 0 < length (split s)
 unfolding split
 split-some [] = omega arith
-split-some (x ∷ s) = by-test (eqb x slash) (λ t. rw t (omega arith)) (λ f. rw f (first-some x (split s)))
+split-some (x ∷ s) = by-test (eqb x slash) (λ t. rw t (omega arith)) (λ f. rw f (on-first-some x (split s)))
 
-first-append : (x : ℕ) (ps qs : List Text) → 0 < length ps → onFirst x (ps ++ qs) ≡ onFirst x ps ++ qs
-unfolding onFirst
-first-append x [] qs h = never (omega arith)
-first-append x (p ∷ ps) qs h = refl
+pub by-split : {X : Type 0} (s : Text) → ((p : Text) (ps : List Text) → split s ≡ p ∷ ps → X) → X
+by-split {X} s f = go (split s) (split-some s) f
+  where
+    go : (l : List Text) → 0 < length l → ((p : Text) (ps : List Text) → l ≡ p ∷ ps → X) → X
+    go [] n f = never (omega arith)
+    go (p ∷ ps) n f = f p ps refl
 
-pub split-append : (x y : Text) → split (x ++ slash ∷ y) ≡ split x ++ split y
-unfolding split
-split-append [] y = refl
-split-append (c ∷ x) y =
-    let ih = split-append x y in
-    by-test (eqb c slash) (λ t. rw (t, ih)) (λ f. rw (f, ih) (first-append c (split x) (split y) (split-some x)))
+-- a slash ends a piece
+pub split-slash : (x y : Text) → split (x ++ slash ∷ y) ≡ split x ++ split y
+unfolding split onFirst
+split-slash [] y = refl
+split-slash (a ∷ x) y =
+    by-test (eqb a slash)
+    (λ t. rw (t, split-slash x y))
+    (λ f. rw (f, split-slash x y) (by-split x (λ p ps e. rw e)))
 
--- the last piece
-
-no-place : {X : Type 0} (j : ℕ) → At j ≡ Nothing → X
-no-place j e = let z : _≡_ {A = ℕ} 0 1 = cc in never (omega arith)
-
-last-all : (f : Found) (j : ℕ) (s : Text) → findLastFrom slash f j s ≡ Nothing → (f ≡ Nothing) × (split s ≡ s ∷ [])
-unfolding split findLastFrom onFirst
-last-all f j [] e = (e, refl)
-last-all f j (x ∷ s) e =
-    let ih = last-all (cond (eqb x slash) (At j) f) (suc j) s e in
-    by-test (eqb x slash) (λ t. no-place j (rw t at (ih .0))) (λ n. (rw n at (ih .0), rw (n, ih .1)))
-
-Last : Found → ℕ → Text → ℕ → Type 0
-Last f j s i =
-    ((f ≡ At i) × (split s ≡ s ∷ []))
-    ⊎ ((j ≤ i) × ((i < j + length s) × (split s ≡ split (take (i - j) s) ++ (drop (suc (i - j)) s ∷ []))))
-
-last-at : (f : Found) (j : ℕ) (s : Text) (i : ℕ) → findLastFrom slash f j s ≡ At i → Last f j s i
-unfolding split findLastFrom onFirst Last
-last-at f j [] i e = inl (e, refl)
-last-at f j (x ∷ s) i e =
-    ⊎-elim
-    (λ w. by-test (eqb x slash)
-    (λ t.
-    let k : j ≡ i = cc (rw t at (w .0)) in
-    let z : i - j ≡ 0 = omega arith in
-    inr (omega arith, (omega arith, rw (z, t, w .1))))
-    (λ n. inl (rw n at (w .0), rw (n, w .1))))
-    (λ w.
-    let z : i - j ≡ suc (i - suc j) = omega arith in
-    inr (
-      omega arith,
-      (
-        omega arith,
-        rw (z, w .1 .1) (by-test (eqb x slash)
-            (λ t. rw t)
-            (λ n. rw n (first-append x (split (take (i - suc j) s)) (drop (suc (i - suc j)) s ∷ []) (split-some (take (i - suc j) s))))),
-      ),
-    ))
-    (last-at (cond (eqb x slash) (At j) f) (suc j) s i e)
-
-pub last-one : (s : Text) → Nothing ≡ findLast slash s → split s ≡ s ∷ []
-last-one s e = last-all Nothing 0 s (sym e) .1
-
-module _ (s : Text) (i : ℕ) (e : At i ≡ findLast slash s) where
-  here : (i < length s) × (split s ≡ split (take i s) ++ (drop (suc i) s ∷ []))
-  unfolding Last
-  here =
-      let y : i - 0 ≡ i = omega arith in
-      ⊎-elim (λ w. no-place i (sym (w .0))) (λ w. (omega arith, rw y at (w .1 .1))) (last-at Nothing 0 s i (sym e))
-
-  pub last-within : i < length s
-  last-within = here .0
-
-  pub last-more : split s ≡ split (take i s) ++ (drop (i + 1) s ∷ [])
-  last-more = rw add-one (here .1)
-
--- pieces with slashes between
-
-joined-none : joined [] ≡ []
-unfolding joined
-joined-none = refl
-
-joined-first : (x : ℕ) (ps : List Text) → joined (onFirst x ps) ≡ x ∷ joined ps
-unfolding joined onFirst
-joined-first x [] = refl
-joined-first x (p ∷ []) = refl
-joined-first x (p ∷ q ∷ ps) = refl
-
-joined-cons : (p : Text) (ps : List Text) → 0 < length ps → joined (p ∷ ps) ≡ p ++ slash ∷ joined ps
-unfolding joined
-joined-cons p [] h = never (omega arith)
-joined-cons p (q ∷ ps) h = refl
-
-joined-one : (p : Text) → joined (p ∷ []) ≡ p
-unfolding joined
-joined-one p = refl
+pub split-lacks : (s : Text) → lacks slash s ≡ true → split s ≡ s ∷ []
+unfolding split onFirst lacks
+split-lacks [] h = refl
+split-lacks (x ∷ s) h =
+    by-test (eqb x slash)
+    (λ t. let z : false ≡ true = rw t at h in let w : _≡_ {A = ℕ} 0 1 = cc in never (omega arith))
+    (λ f. rw (f, split-lacks s (rw f at h)))
 
 pub joined-split : (s : Text) → joined (split s) ≡ s
-unfolding split
-joined-split [] = joined-one []
+unfolding split onFirst joined
+joined-split [] = refl
 joined-split (x ∷ s) =
-    let ih = joined-split s in
     by-test (eqb x slash)
-    (λ t. rw (t, joined-cons [] (split s) (split-some s), ih, eqb-true x slash t))
-    (λ f. rw (f, joined-first x (split s), ih))
+    (λ t. rw t (by-split s (λ p ps e. rw e (ap (λ (l : Text). slash ∷ l) (ap joined (sym e) ∙ joined-split s) ∙ ap (λ (y : ℕ). y ∷ s) (sym (eqb-true x slash t))))))
+    (λ f. rw f (by-split s (λ p ps e. rw e (on-joined p ps ∙ ap (λ (l : Text). x ∷ l) (ap joined (sym e) ∙ joined-split s)))))
+  where
+    on-joined : (p : Text) (ps : List Text) → joined ((x ∷ p) ∷ ps) ≡ x ∷ joined (p ∷ ps)
+    on-joined p [] = refl
+    on-joined p (q ∷ ps) = refl
 
--- pieces that are whole: none has a slash within
+-- each piece lacks a slash, and such pieces are those of the text that they make
 
-Whole : List Text → Type 0
-Whole [] = Unit {0}
-Whole (p ∷ ps) = (split p ≡ p ∷ []) × Whole ps
+pub split-bare : (s : Text) → eachOf (lacks slash) (split s) ≡ true
+unfolding split onFirst eachOf lacks
+split-bare [] = refl
+split-bare (x ∷ s) =
+    by-test (eqb x slash)
+    (λ t. rw t (split-bare s))
+    (λ f. rw f (by-split s (λ p ps e. rw e (rw f (rw e at (split-bare s))))))
 
-whole-first : (x : ℕ) (ps : List Text) → eqb x slash ≡ false → Whole ps → Whole (onFirst x ps)
-unfolding split onFirst Whole
-whole-first x [] f w = (rw f, tt)
-whole-first x (p ∷ ps) f w = (rw (f, w .0), w .1)
+pub split-joined : (p : Text) (ps : List Text) → eachOf (lacks slash) (p ∷ ps) ≡ true → split (joined (p ∷ ps)) ≡ p ∷ ps
+unfolding eachOf joined
+split-joined p [] h = split-lacks p (both-left (lacks slash p) true h)
+split-joined p (q ∷ ps) h =
+    rw (split-slash p (joined (q ∷ ps)), split-lacks p (both-left (lacks slash p) _ h), split-joined q ps (both-right (lacks slash p) _ h))
 
-whole-split : (s : Text) → Whole (split s)
-unfolding split Whole
-whole-split [] = (refl, tt)
-whole-split (x ∷ s) =
-    let ih = whole-split s in
-    by-test (eqb x slash) (λ t. rw t (refl, ih)) (λ f. rw f (whole-first x (split s) f ih))
+-- The last piece
 
-split-joined : (p : Text) (ps : List Text) → Whole (p ∷ ps) → split (joined (p ∷ ps)) ≡ p ∷ ps
-unfolding joined Whole
-split-joined p [] w = w .0
-split-joined p (q ∷ ps) w = rw (split-append p (joined (q ∷ ps)), w .0, split-joined q ps (w .1))
+last-snoc : (x : Text) (ps : List Text) (p : Text) → lastOf x (ps ++ (p ∷ [])) ≡ p
+unfolding lastOf
+last-snoc x [] p = refl
+last-snoc x (q ∷ ps) p = last-snoc q ps p
 
--- the pieces up to the last component
+data Cut (s : Text) (f : Found) : Type 0 where
+  whole : f ≡ Nothing → split s ≡ s ∷ [] → lastPiece s ≡ s → Cut s f
+  parted : (i : ℕ) → f ≡ At i → i < length s → split s ≡ split (take i s) ++ (drop (suc i) s ∷ []) → lastPiece s ≡ drop (suc i) s → Cut s f
 
-trim-nil : trimEnd [] ≡ []
-unfolding trimEnd
-trim-nil = refl
+cut : (s : Text) (f : Found) → f ≡ findLast slash s → Cut s f
+unfolding lastPiece lastOf
+cut s Nothing e = let p = split-lacks s (last-lacks slash s e) in whole refl p (rw p)
+cut s (At i) e =
+    let w : i < length s = last-within slash s i e in
+    let a = last-at slash s i e in
+    let z : s ≡ take i s ++ slash ∷ drop (suc i) s = split-at s i 0 w ∙ rw (a .1 .0) in
+    let p : split s ≡ split (take i s) ++ (drop (suc i) s ∷ []) =
+    ap split z ∙ split-slash (take i s) (drop (suc i) s) ∙ ap (λ (l : List Text). split (take i s) ++ l) (split-lacks (drop (suc i) s) (a .1 .1)) in
+    parted i refl w p (rw p (last-snoc [] (split (take i s)) (drop (suc i) s)))
 
-ending-keep : (p : Text) → isSkip (pieceOf p) ≡ false → ending p [] ≡ p ∷ []
-unfolding ending
-ending-keep p k = rw k
+-- where the last piece begins
+module _ (s : Text) (f : Found) (e : f ≡ findLast slash s) where
+  pub start-none : f ≡ Nothing → 0 ≡ length s - length (lastPiece s)
+  start-none n = go (cut s f e)
+    where
+      go : Cut s f → 0 ≡ length s - length (lastPiece s)
+      go (whole _ p l) = rw l (omega arith)
+      go (parted i g w p l) = let z : _≡_ {A = ℕ} 0 1 = cc in never (omega arith)
 
-ending-some : (p : Text) (ps : List Text) → 0 < length ps → ending p ps ≡ p ∷ ps
-unfolding ending
-ending-some p [] h = never (omega arith)
-ending-some p (q ∷ ps) h = refl
+  module _ (i : ℕ) (n : f ≡ At i) where
+    pub start-some : i + 1 ≡ length s - length (lastPiece s)
+    start-some = go (cut s f e)
+      where
+        go : Cut s f → i + 1 ≡ length s - length (lastPiece s)
+        go (whole g p l) = let z : _≡_ {A = ℕ} 0 1 = cc in never (omega arith)
+        go (parted k g w p l) = let z : k ≡ i = cc in rw l (omega (arith, length-drop (suc k) s))
 
-module _ (p : Text) where
-  pub trim-skip : (ps : List Text) → isSkip (pieceOf p) ≡ true → trimEnd (ps ++ (p ∷ [])) ≡ trimEnd ps
-  unfolding trimEnd ending
-  trim-skip [] k = rw k
-  trim-skip (q ∷ ps) k = ap (ending q) (trim-skip ps k)
+    pub start-within : i < length s
+    start-within = last-within slash s i (sym n ∙ e)
 
-  pub trim-keep : (ps : List Text) → isSkip (pieceOf p) ≡ false → trimEnd (ps ++ (p ∷ [])) ≡ ps ++ (p ∷ [])
-  unfolding trimEnd
-  trim-keep [] k = ending-keep p k
-  trim-keep (q ∷ ps) k = rw (trim-keep ps k) (ending-some q (ps ++ (p ∷ [])) (omega (arith, length-append ps (p ∷ []))))
+-- the text at the place k where its last piece begins
+module _ (s : Text) (k : ℕ) (h : k ≡ length s - length (lastPiece s)) where
+  pub start-drop : drop k s ≡ lastPiece s
+  start-drop = go (cut s _ refl)
+    where
+      go : Cut s (findLast slash s) → drop k s ≡ lastPiece s
+      go (whole g p l) = let z : k ≡ 0 = h ∙ rw l (omega arith) in rw (z, l)
+      go (parted i g w p l) = let z : k ≡ suc i = h ∙ rw l (omega (arith, length-drop (suc i) s)) in rw (z, l)
 
-  pub but-last : (ps : List Text) → allButLast (ps ++ (p ∷ [])) ≡ ps
-  unfolding allButLast
-  but-last [] = refl
-  but-last (q ∷ []) = refl
-  but-last (q ∷ r ∷ ps) = ap (λ (l : List Text). q ∷ l) (but-last (r ∷ ps))
+  pub start-first : k ≡ 0 → split s ≡ drop k s ∷ []
+  start-first z = go (cut s _ refl)
+    where
+      go : Cut s (findLast slash s) → split s ≡ drop k s ∷ []
+      go (whole g p l) = rw (z, p)
+      go (parted i g w p l) = let y : k ≡ suc i = h ∙ rw l (omega (arith, length-drop (suc i) s)) in never (omega arith)
 
-whole-ending : (p : Text) (ps : List Text) → Whole (p ∷ ps) → Whole (ending p ps)
-unfolding ending Whole
-whole-ending p [] w = by-test (isSkip (pieceOf p)) (λ t. rw t tt) (λ f. rw f w)
-whole-ending p (q ∷ ps) w = w
+  pub start-later : 0 < k → split s ≡ split (take (k - 1) s) ++ (drop k s ∷ [])
+  start-later z = go (cut s _ refl)
+    where
+      go : Cut s (findLast slash s) → split s ≡ split (take (k - 1) s) ++ (drop k s ∷ [])
+      go (whole g p l) = let y : k ≡ 0 = h ∙ rw l (omega arith) in never (omega arith)
+      go (parted i g w p l) =
+          let y : k ≡ suc i = h ∙ rw l (omega (arith, length-drop (suc i) s)) in
+          let x : suc i - 1 ≡ i = omega arith in
+          rw (y, x, p)
 
-whole-trim : (ps : List Text) → Whole ps → Whole (trimEnd ps)
-unfolding trimEnd Whole
-whole-trim [] w = tt
-whole-trim (p ∷ ps) w = whole-ending p (trimEnd ps) (w .0, whole-trim ps (w .1))
+-- The pieces up to the last component
 
--- the text up to the last component is empty just where there is none
+trim-skip : (ps : List Text) (p : Text) → isSkip (pieceOf p) ≡ true → trimEnd (ps ++ (p ∷ [])) ≡ trimEnd ps
+unfolding trimEnd ending
+trim-skip [] p h = rw h
+trim-skip (q ∷ ps) p h = rw (trim-skip ps p h)
 
+trim-keep : (ps : List Text) (p : Text) → isSkip (pieceOf p) ≡ false → trimEnd (ps ++ (p ∷ [])) ≡ ps ++ (p ∷ [])
+unfolding trimEnd ending
+trim-keep [] p h = rw h
+trim-keep (q ∷ ps) p h = rw (trim-keep ps p h) (grows ps)
+  where
+    grows : (ps : List Text) → ending q (ps ++ (p ∷ [])) ≡ q ∷ ps ++ (p ∷ [])
+    grows [] = refl
+    grows (r ∷ ps) = refl
+
+pub trim-each : (ok : Text → Bool) (ps : List Text) → eachOf ok ps ≡ true → eachOf ok (trimEnd ps) ≡ true
+unfolding trimEnd ending eachOf
+trim-each ok [] h = refl
+trim-each ok (p ∷ ps) h = go (trimEnd ps) (trim-each ok ps (both-right (ok p) _ h)) (isSkip (pieceOf p)) refl
+  where
+    one : ok p ≡ true
+    one = both-left (ok p) _ h
+
+    go : (l : List Text) → eachOf ok l ≡ true → (t : Bool) → isSkip (pieceOf p) ≡ t → eachOf ok (ending p l) ≡ true
+    go [] k true e = rw e
+    go [] k false e = rw (e, one)
+    go (q ∷ l) k t e = rw one k
+
+-- they make the front of the text that all of them make
+pub joined-trim : (ps : List Text) → take (length (joined (trimEnd ps))) (joined ps) ≡ joined (trimEnd ps)
+unfolding trimEnd ending joined
+joined-trim [] = refl
+joined-trim (p ∷ []) = by-test (isSkip (pieceOf p)) (λ t. rw t) (λ f. rw f (take-all (length p) p (omega arith)))
+joined-trim (p ∷ r ∷ ps) = go (trimEnd (r ∷ ps)) (joined-trim (r ∷ ps))
+  where
+    go : (l : List Text) → take (length (joined l)) (joined (r ∷ ps)) ≡ joined l → take (length (joined (ending p l))) (joined (p ∷ r ∷ ps)) ≡ joined (ending p l)
+    go [] ih = by-test (isSkip (pieceOf p)) (λ t. rw t) (λ f. rw f (take-append-seam p (slash ∷ joined (r ∷ ps))))
+    go (q ∷ l) ih =
+        rw (length-append p (slash ∷ joined (q ∷ l))) (take-append-add p (slash ∷ joined (r ∷ ps)) (suc (length (joined (q ∷ l)))) ∙ rw ih)
+
+pub trimmed-front : (s : Text) → take (length (joined (trimEnd (split s)))) s ≡ joined (trimEnd (split s))
+trimmed-front s = rw joined-split at (joined-trim (split s))
+
+pub trim-le : (ps : List Text) → length (joined (trimEnd ps)) ≤ length (joined ps)
+trim-le ps = omega (arith, ap length (joined-trim ps), length-take (length (joined (trimEnd ps))) (joined ps))
+
+-- the text up to the last component
+abbrev pub ends : Text → Text
+ends s = joined (trimEnd (split s))
+
+pub ends-le : (s : Text) → length (ends s) ≤ length s
+ends-le s = omega (arith, ap length (trimmed-front s), length-take (length (ends s)) s)
+
+pub ends-split : (s : Text) → 0 < length (ends s) → split (ends s) ≡ trimEnd (split s)
+unfolding joined
+ends-split s h = go (trimEnd (split s)) (trim-each (lacks slash) (split s) (split-bare s)) h
+  where
+    go : (ts : List Text) → eachOf (lacks slash) ts ≡ true → 0 < length (joined ts) → split (joined ts) ≡ ts
+    go [] w h = never (omega arith)
+    go (t ∷ ts) w h = split-joined t ts w
+
+-- it is empty just where there is no component
 some-piece : (p : Text) → isSkip (pieceOf p) ≡ false → 0 < length p
 unfolding pieceOf
-some-piece [] f = let z : _≡_ {A = Bool} true false = f in let w : _≡_ {A = ℕ} 0 1 = cc in never (omega arith)
+some-piece [] f = let w : _≡_ {A = ℕ} 0 1 = cc in never (omega arith)
 some-piece (x ∷ p) f = omega arith
 
 ending-none : (p : Text) (ts : List Text) → length (joined (ending p ts)) ≡ 0 → ending p ts ≡ []
@@ -214,102 +292,82 @@ unfolding trimEnd
 trim-none [] h = refl
 trim-none (p ∷ ps) h = ending-none p (trimEnd ps) h
 
--- a text begins with its text up to the last component
+-- pieces without their last
+pub but-last : (p : Text) (ps : List Text) → allButLast (ps ++ (p ∷ [])) ≡ ps
+unfolding allButLast
+but-last p [] = refl
+but-last p (q ∷ []) = refl
+but-last p (q ∷ r ∷ ps) = ap (λ (l : List Text). q ∷ l) (but-last p (r ∷ ps))
 
-abbrev pub ends : Text → Text
-ends s = joined (trimEnd (split s))
+pub last-one : (s : Text) → Nothing ≡ findLast slash s → split s ≡ s ∷ []
+last-one s e = split-lacks s (last-lacks slash s e)
 
-abbrev pub Begins : Text → Text → Type 0
-Begins s t = (u : Text) × (s ≡ t ++ u)
+pub last-more : (s : Text) (i : ℕ) → At i ≡ findLast slash s → split s ≡ split (take i s) ++ (drop (i + 1) s ∷ [])
+last-more s i e = go (cut s (At i) e)
+  where
+    go : Cut s (At i) → split s ≡ split (take i s) ++ (drop (i + 1) s ∷ [])
+    go (whole g p l) = let z : _≡_ {A = ℕ} 0 1 = cc in never (omega arith)
+    go (parted k g w p l) = let z : k ≡ i = cc in rw (← z, add-one k) p
 
-ending-begins : (p s : Text) (ts : List Text) → Begins s (joined ts) → Begins (p ++ slash ∷ s) (joined (ending p ts))
-unfolding ending joined
-ending-begins p s [] b = by-test (isSkip (pieceOf p)) (λ t. rw t (p ++ slash ∷ s, refl)) (λ f. rw f (slash ∷ s, refl))
-ending-begins p s (q ∷ ts) b = (b .0, rw (b .1) (sym (append-assoc p (slash ∷ joined (q ∷ ts)) (b .0))))
+-- a scan from the end: k is where the last piece of t begins, u that piece, r whether it is skipped
+module _ (t : Text) (k : ℕ) (h : k ≡ length t - length (lastPiece t)) (u : Text) (d : u ≡ drop k t) (r : Bool) (e : r ≡ isSkip (pieceOf u)) where
+  pub scan-keep : r ≡ false → joined (trimEnd (split t)) ≡ t
+  scan-keep f =
+      let skip : isSkip (pieceOf (drop k t)) ≡ false = sym (rw d at e) ∙ f in
+      let same : trimEnd (split t) ≡ split t =
+      by-test (eqb k 0)
+      (λ z. rw (start-first t k h (eqb-true k 0 z)) (trim-keep [] (drop k t) skip))
+      (λ z. let y = eqb-false k 0 z in rw (start-later t k h (omega arith)) (trim-keep (split (take (k - 1) t)) (drop k t) skip)) in
+      ap joined same ∙ joined-split t
 
-pub trim-begins : (ps : List Text) → Begins (joined ps) (joined (trimEnd ps))
-unfolding trimEnd ending joined
-trim-begins [] = ([], refl)
-trim-begins (p ∷ []) = by-test (isSkip (pieceOf p)) (λ t. rw t (p, refl)) (λ f. rw f ([], sym (append-nil p)))
-trim-begins (p ∷ q ∷ ps) = ending-begins p (joined (q ∷ ps)) (trimEnd (q ∷ ps)) (trim-begins (q ∷ ps))
+  module _ (f : r ≡ true) where
+    skip : isSkip (pieceOf (drop k t)) ≡ true
+    skip = sym (rw d at e) ∙ f
 
-pub begins-le : (s t : Text) → Begins s t → length t ≤ length s
-begins-le s t b = omega (arith, ap length (b .1), length-append t (b .0))
+    pub scan-none : k ≡ 0 → trimEnd (split t) ≡ []
+    unfolding trimEnd
+    scan-none z = rw (start-first t k h z) (trim-skip [] (drop k t) skip)
 
-module _ (s : Text) where
-  whole : Begins s (ends s)
-  whole = rw (joined-split s) at (trim-begins (split s))
+    pub scan-less : 0 < k → trimEnd (split (take (k - 1) t)) ≡ trimEnd (split t)
+    scan-less z = sym (ap trimEnd (start-later t k h z) ∙ trim-skip (split (take (k - 1) t)) (drop k t) skip)
 
-  pub ends-le : length (ends s) ≤ length s
-  ends-le = begins-le s (ends s) whole
+-- the same of the part of s from a up to e, where what follows e has no component
+pub record Trims (s : Text) (a e : ℕ) : Type 0 where
+  pub low : a ≤ e
+  pub high : e ≤ length s
+  pub same : trimEnd (split (between a e s)) ≡ trimEnd (split (drop a s))
 
-  pub ends-take : take (length (ends s)) s ≡ ends s
-  ends-take = ap (take (length (ends s))) (whole .1) ∙ take-append-seam (ends s) (whole .0)
+module _ (s : Text) (a : ℕ) where
+  pub ends-past : length s ≤ a → a ≡ a + length (joined (trimEnd (split (drop a s))))
+  unfolding split trimEnd ending joined pieceOf
+  ends-past h = rw (drop-of-length-le s h) (sym (add-zero a))
 
-  pub ends-split : 0 < length (ends s) → split (ends s) ≡ trimEnd (split s)
-  ends-split h = go (trimEnd (split s)) (whole-trim (split s) (whole-split s)) h
-    where
-      go : (ts : List Text) → Whole ts → 0 < length (joined ts) → split (joined ts) ≡ ts
-      go [] w h = never (omega (arith, ap length joined-none))
-      go (t ∷ ts) w h = split-joined t ts w
+  pub ends-all : a < length s → Trims s a (length s)
+  ends-all h = record { low = omega arith; high = omega arith; same = ap (λ (x : Text). trimEnd (split x)) (take-all (length s - a) (drop a s) (omega (arith, length-drop a s))) }
 
--- A scan from the end: the last component of what stands between a and e is that of all that stands from a on
+  module _ (e : ℕ) (inv : Trims s a e) (t : Text) (c : t ≡ between a e s) (k : ℕ) (h : k ≡ length t - length (lastPiece t)) where
+    long : length t ≡ e - a
+    long = rw c (length-take-le (e - a) (drop a s) (omega (arith, length-drop a s)))
 
-abbrev pub Ends : Text → ℕ → ℕ → Type 0
-Ends s a e = trimEnd (split (between a e s)) ≡ trimEnd (split (drop a s))
+    pub ends-within : a + k ≤ e
+    ends-within = omega (arith, long)
 
-pub scan-start : (s : Text) (a : ℕ) → Ends s a (length s)
-scan-start s a = ap (λ (t : Text). trimEnd (split t)) (take-all (length s - a) (drop a s) (omega (arith, length-drop a s)))
+    module _ (u : Text) (d : u ≡ drop k t) (r : Bool) (q : r ≡ isSkip (pieceOf u)) where
+      pub ends-keep : r ≡ false → e ≡ a + length (joined (trimEnd (split (drop a s))))
+      ends-keep f =
+          let z : joined (trimEnd (split (drop a s))) ≡ t = ap joined (sym (inv .same) ∙ ap (λ (x : Text). trimEnd (split x)) (sym c)) ∙ scan-keep t k h u d r q f in
+          rw z (omega (arith, long))
 
-pub scan-empty : (s : Text) (a e : ℕ) → e ≤ a → Ends s a e → a ≡ a + length (ends (drop a s))
-unfolding split trimEnd ending pieceOf joined
-scan-empty s a e h inv =
-    let z : e - a ≡ 0 = omega arith in
-    let n : trimEnd (split (drop a s)) ≡ [] = sym (rw z at inv) in
-    rw n (sym (add-zero a))
+      module _ (f : r ≡ true) where
+        pub ends-none : k ≡ 0 → a ≡ a + length (joined (trimEnd (split (drop a s))))
+        unfolding joined
+        ends-none z = rw (← inv .same, ← c, scan-none t k h u d r q f z) (sym (add-zero a))
 
--- p is what stands between, r where its last slash is, and k whether a piece is skipped
-module _ (s : Text) (a e : ℕ) (h : a < e) (l : e ≤ length s) (inv : Ends s a e) (p : Text) (d : p ≡ between a e s) (r : Found) (f : r ≡ findLast slash p) where
-  size : length p ≡ e - a
-  size = ap length d ∙ length-take-le (e - a) (drop a s) (omega (arith, length-drop a s))
-
-  same : trimEnd (split p) ≡ trimEnd (split (drop a s))
-  same = ap (λ (t : Text). trimEnd (split t)) d ∙ inv
-
-  ends-here : trimEnd (split p) ≡ split p → e ≡ a + length (ends (drop a s))
-  ends-here w =
-      let y : ends (drop a s) ≡ p = ap joined (sym same ∙ w) ∙ joined-split p in
-      omega (arith, ap length y, size)
-
-  module _ (n : r ≡ Nothing) (k : Bool) (q : k ≡ isSkip (pieceOf p)) where
-    only : split p ≡ p ∷ []
-    only = last-one p (sym n ∙ f)
-
-    pub scan-none : k ≡ true → a ≡ a + length (ends (drop a s))
-    scan-none t =
-        let y : trimEnd (split p) ≡ [] = ap trimEnd only ∙ trim-skip p [] (sym q ∙ t) ∙ trim-nil in
-        let z : ends (drop a s) ≡ [] = ap joined (sym same ∙ y) ∙ joined-none in
-        omega (arith, ap length z)
-
-    pub scan-one : k ≡ false → e ≡ a + length (ends (drop a s))
-    scan-one t = ends-here (ap trimEnd only ∙ trim-keep p [] (sym q ∙ t) ∙ sym only)
-
-  module _ (i : ℕ) (g : r ≡ At i) where
-    found : At i ≡ findLast slash p
-    found = sym g ∙ f
-
-    pub scan-within : a + i < e
-    scan-within = omega (arith, last-within p i found, size)
-
-    module _ (q : Text) (m : q ≡ drop (i + 1) p) (k : Bool) (w : k ≡ isSkip (pieceOf q)) where
-      more : split p ≡ split (take i p) ++ (q ∷ [])
-      more = rw m (last-more p i found)
-
-      pub scan-last : k ≡ false → e ≡ a + length (ends (drop a s))
-      scan-last t = ends-here (ap trimEnd more ∙ trim-keep q (split (take i p)) (sym w ∙ t) ∙ sym more)
-
-      pub scan-on : k ≡ true → Ends s a (a + i)
-      scan-on t =
-          let y : a + i - a ≡ i = omega arith in
-          let z : take i p ≡ take i (drop a s) = ap (take i) d ∙ take-take i (e - a) (drop a s) (omega (arith, scan-within)) in
-          rw (y, ← z) (sym (trim-skip q (split (take i p)) (sym w ∙ t)) ∙ sym (ap trimEnd more) ∙ same)
+        pub ends-less : (k ≡ 0 → ⊥) → Trims s a (a + k - 1)
+        ends-less n =
+            let y : a + (k - 1) ≡ a + k - 1 = omega arith in
+            record {
+              low = omega arith;
+              high = omega (arith, ends-within);
+              same = rw (← y, ← between-less s a e (k - 1) (omega (arith, long)), ← c) (scan-less t k h u d r q f (omega arith) ∙ rw c (inv .same));
+            }

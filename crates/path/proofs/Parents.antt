@@ -1,93 +1,25 @@
--- Laws of what a path begins with, and of the path without its last component. Assumes nothing.
+-- Laws of the path without its last component. Assumes nothing.
 use mathlib.Core.Path.{_≡_, refl, sym, ap, _∙_}
 use mathlib.Core.List.{List, [], _∷_, _++_, append-nil}
 use mathlib.Core.Bool.{Bool, true, false}
 use Prim.Native.Nat.{ℕ, suc, _+_, _-_, _≤_, _<_}
 use native.Mathlib.Omega.{arith}
-use lib.ListN.{length, take, drop, getD, length-append, length-take, length-drop}
-use lib.Seq.{take-add, take-take, take-length, length-take-le, drop-at}
-use lib.Dec.{eqb}
-use borrow.Author.Tests.{eq-eqb, ne-eqb, eqb-true}
-use Rattle.text.specs.Bytes.{Text, slash, dot}
+use lib.ListN.{length, take, drop, length-append, length-take, length-drop}
+use lib.Seq.{take-add, take-take, take-length, length-take-le}
+use Rattle.text.specs.Bytes.{Text, slash}
 use Rattle.text.specs.Text.{findLast, between}
 use Rattle.text.specs.declared.Found.{Found}
 use Rattle.text.specs.declared.Found.the-variants.{At, Nothing}
-use Rattle.path.specs.Path.{split, starts, leadsDot, joined, trimEnd, allButLast, leadOf, body, withoutLast, parentOf}
+use Rattle.path.specs.Path.{split, leadsDot, joined, trimEnd, allButLast, leadOf, body, withoutLast, parentOf}
 use Rattle.path.specs.Places.{Holds}
 use Rattle.path.proofs.Pieces.{by-test}
-use Rattle.path.proofs.Ends.{never, ends, ends-le, ends-take, ends-split, trim-none, trim-begins, begins-le, but-last, last-one, last-within, last-more}
-
--- what a path begins with
-
-pub abs-none : (s : Text) → length s ≡ 0 → false ≡ starts slash s
-unfolding starts
-abs-none [] h = refl
-abs-none (x ∷ s) h = never (omega arith)
-
-pub abs-first : (s : Text) → 0 < length s → eqb (getD s 0 0) slash ≡ starts slash s
-unfolding starts
-abs-first [] h = never (omega arith)
-abs-first (x ∷ s) h = refl
-
-pub leads-none : (s : Text) → length s ≡ 0 → false ≡ leadsDot s
-unfolding leadsDot
-leads-none [] h = refl
-leads-none (x ∷ s) h = never (omega arith)
-
-pub leads-other : (s : Text) → 0 < length s → (getD s 0 0 ≡ dot → ⊥) → false ≡ leadsDot s
-unfolding leadsDot
-leads-other [] h n = never (omega arith)
-leads-other (x ∷ []) h n = rw (ne-eqb x dot n)
-leads-other (x ∷ y ∷ s) h n = rw (ne-eqb x dot n)
-
-pub leads-one : (s : Text) → length s ≡ 1 → getD s 0 0 ≡ dot → true ≡ leadsDot s
-unfolding leadsDot
-leads-one [] h e = never (omega arith)
-leads-one (x ∷ []) h e = rw (eq-eqb x dot e)
-leads-one (x ∷ y ∷ s) h e = never (omega arith)
-
-pub leads-two : (s : Text) → 1 < length s → getD s 0 0 ≡ dot → eqb (getD s 1 0) slash ≡ leadsDot s
-unfolding leadsDot
-leads-two [] h e = never (omega arith)
-leads-two (x ∷ []) h e = never (omega arith)
-leads-two (x ∷ y ∷ s) h e = rw (eq-eqb x dot e)
-
-leads-first : (x : ℕ) (s : Text) → leadsDot (x ∷ s) ≡ true → x ≡ dot
-unfolding leadsDot
-leads-first x [] e = eqb-true x dot e
-leads-first x (y ∷ s) e = by-test (eqb x dot) (λ t. eqb-true x dot t) (λ f. let z : _≡_ {A = Bool} false true = rw f at e in let w : _≡_ {A = ℕ} 0 1 = cc in never (omega arith))
-
--- how long that is: k and m are the answers of the tests
-
-module _ (s : Text) (k : Bool) (e : k ≡ starts slash s) where
-  pub lead-slash : k ≡ true → 1 ≡ length (leadOf s)
-  unfolding leadOf
-  lead-slash t = rw (← e, t)
-
-  module _ (f : k ≡ false) (m : Bool) (d : m ≡ leadsDot s) where
-    pub lead-dot : m ≡ true → 1 ≡ length (leadOf s)
-    unfolding leadOf
-    lead-dot t = rw (← e, f, ← d, t)
-
-    pub lead-none : m ≡ false → 0 ≡ length (leadOf s)
-    unfolding leadOf
-    lead-none t = rw (← e, f, ← d, t)
-
-pub lead-take : (s : Text) → take (length (leadOf s)) s ≡ leadOf s
-unfolding leadOf starts leadsDot
-lead-take [] = refl
-lead-take (x ∷ s) =
-    by-test (eqb x slash)
-    (λ t. rw (t, eqb-true x slash t))
-    (λ f. rw f (by-test (leadsDot (x ∷ s)) (λ t. rw (t, leads-first x s t)) (λ g. rw g)))
-
-pub lead-le : (s : Text) → length (leadOf s) ≤ length s
-lead-le s = omega (arith, ap length (lead-take s), length-take (length (leadOf s)) s)
+use Rattle.path.proofs.Components.{lead-front, lead-le}
+use Rattle.path.proofs.Ends.{never, drop-take, ends, ends-le, trimmed-front, ends-split, trim-none, trim-le, but-last, last-one, last-within, last-more}
 
 -- the path without its last component
 
-drop-take : (a i : ℕ) (s : Text) → a ≤ length s → drop a (take (a + i) s) ≡ take i (drop a s)
-drop-take a i s h = rw (take-add a i s) (drop-at (take a s) (take i (drop a s)) a (length-take-le a s h))
+front-after : (a i : ℕ) (s : Text) → drop a (take (a + i) s) ≡ take i (drop a s)
+front-after a i s = let z : a + i - a ≡ i = omega arith in rw z at (drop-take a (a + i) s)
 
 without-none : (s : Text) → length (withoutLast s []) ≤ length s
 unfolding withoutLast
@@ -135,7 +67,7 @@ module _ (s : Text) (a : ℕ) (m : a ≡ length (leadOf s)) (e : ℕ) (n : e ≡
     some-body = omega arith
 
     upto-end : t ≡ ends (drop a s)
-    upto-end = let z : e - a ≡ length (ends (drop a s)) = omega arith in d ∙ ap (λ (k : ℕ). take k (drop a s)) z ∙ ends-take (drop a s)
+    upto-end = let z : e - a ≡ length (ends (drop a s)) = omega arith in d ∙ ap (λ (k : ℕ). take k (drop a s)) z ∙ trimmed-front (drop a s)
 
     split-end : split t ≡ body s
     split-end = ap split upto-end ∙ ends-split (drop a s) some-body ∙ in-body
@@ -147,32 +79,29 @@ module _ (s : Text) (a : ℕ) (m : a ≡ length (leadOf s)) (e : ℕ) (n : e ≡
     pub parent-lead : r ≡ Nothing → Holds a s (parentOf s)
     parent-lead z =
         let w : parentOf s ≡ leadOf s = parent-some ∙ ap (λ (l : List Text). leadOf s ++ joined (trimEnd (allButLast l))) (last-one t (sym z ∙ f)) ∙ without-one s t in
-        rw w (record { size = m; bytes = rw m (lead-take s) })
+        rw w (record { size = m; bytes = rw m (lead-front s) })
 
     module _ (i : ℕ) (g : r ≡ At i) where
       found : At i ≡ findLast slash t
       found = sym g ∙ f
 
       pub cut-within : a + i < length s
-      cut-within = omega (arith, last-within t i found, ap length upto-end, end-le)
-
-      pub cut-start : (u : Text) → u ≡ take (a + i) s → a ≤ length u
-      cut-start u c = omega (arith, ap length c, length-take-le (a + i) s (omega (arith, cut-within)))
+      cut-within = omega (arith, last-within slash t i found, ap length upto-end, end-le)
 
       pub parent-more : (u : Text) → u ≡ take (a + i) s → (k : ℕ) → k ≡ a + length (ends (drop a u)) → Holds k s (parentOf s)
       parent-more u c k o =
-          let y : drop a u ≡ take i (drop a s) = ap (drop a) c ∙ drop-take a i s start-le in
-          let v : take i t ≡ take i (drop a s) = ap (take i) d ∙ take-take i (e - a) (drop a s) (omega (arith, last-within t i found, ap length upto-end)) in
+          let y : drop a u ≡ take i (drop a s) = ap (drop a) c ∙ front-after a i s in
+          let v : take i t ≡ take i (drop a s) = ap (take i) d ∙ take-take i (e - a) (drop a s) (omega (arith, last-within slash t i found, ap length upto-end)) in
           let w : parentOf s ≡ leadOf s ++ ends (drop a u) =
           parent-some ∙ ap (λ (l : List Text). leadOf s ++ joined (trimEnd (allButLast l))) (last-more t i found)
           ∙ ap (λ (l : List Text). leadOf s ++ joined (trimEnd l)) (but-last (drop (i + 1) t) (split (take i t)))
           ∙ ap (λ (l : Text). leadOf s ++ ends l) (v ∙ sym y) in
           let b : take (length (ends (drop a u))) (drop a s) ≡ ends (drop a u) =
           sym (take-take (length (ends (drop a u))) i (drop a s) (omega (arith, ends-le (drop a u), ap length y, length-take i (drop a s))))
-          ∙ ap (take (length (ends (drop a u)))) (sym y) ∙ ends-take (drop a u) in
+          ∙ ap (take (length (ends (drop a u)))) (sym y) ∙ trimmed-front (drop a u) in
           rw w (record {
             size = omega (arith, length-append (leadOf s) (ends (drop a u)));
-            bytes = rw (o, take-add a (length (ends (drop a u))) s, b, m, lead-take s);
+            bytes = rw (o, take-add a (length (ends (drop a u))) s, b, m, lead-front s);
           })
 
 -- it is no longer than the path
@@ -197,4 +126,4 @@ parent-le s = go (body s) (omega (arith, ends-le (drop (length (leadOf s)) s), l
     go [] h = without-none s
     go (p ∷ ps) h =
         let qs = allButLast (p ∷ ps) in
-        rw (without-cons s p ps) (omega (arith, length-append (leadOf s) (joined (trimEnd qs)), begins-le (joined qs) (joined (trimEnd qs)) (trim-begins qs), but-last-le (p ∷ ps)))
+        rw (without-cons s p ps) (omega (arith, length-append (leadOf s) (joined (trimEnd qs)), trim-le qs, but-last-le (p ∷ ps)))

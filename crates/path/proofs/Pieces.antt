@@ -1,22 +1,21 @@
 -- Laws of a text's pieces. Assumes nothing.
-use mathlib.Core.Path.{_≡_, refl, sym, ap, _∙_}
-use mathlib.Core.List.{List, [], _∷_, _++_}
+use mathlib.Core.Path.{_≡_, refl, sym}
+use mathlib.Core.List.{[], _∷_}
 use mathlib.Core.Bool.{Bool, true, false, cond}
-use Prim.Native.Nat.{ℕ, zero, suc, _+_, _-_, _≤_, _<_}
+use Prim.Native.Nat.{ℕ, suc, _+_, _-_, _≤_, _<_}
 use native.Mathlib.Omega.{arith}
 use native.Mathlib.Nat.{add-zero}
 use native.Mathlib.Numerals.{add-one}
-use lib.ListN.{length, take, drop, getD, length-take, length-drop, drop-of-length-le}
-use lib.Seq.{length-take-le, take-all}
+use lib.ListN.{length, take, drop, getD, length-drop, drop-of-length-le}
+use lib.Seq.{length-take-le}
 use lib.Dec.{eqb}
 use borrow.Author.Tests.{eq-eqb, ne-eqb}
 use Rattle.text.specs.Bytes.{Text, slash, dot}
-use Rattle.text.specs.Text.{findFrom, find, between}
+use Rattle.text.specs.Text.{findFrom, find}
 use Rattle.text.specs.declared.Found.{Found}
 use Rattle.text.specs.declared.Found.the-variants.{At, Nothing}
-use Rattle.path.specs.Path.{onFirst, split, pieceOf, isSkip}
-use Rattle.path.specs.Places.{firstOf, pieceEnd}
-use Rattle.path.specs.declared.Piece.{Piece}
+use Rattle.path.specs.Path.{onFirst, split, pieceOf}
+use Rattle.path.specs.Places.{pieceEnd}
 use Rattle.path.specs.declared.Piece.the-variants.{Skip, Up, Name}
 
 never : {A : Type 0} → ⊥ → A

@@ -10,7 +10,7 @@ use Rattle.text.specs.declared.Found.{Found}
 use Rattle.text.specs.declared.Found.the-variants.{At, Nothing}
 use Rattle.text.specs.declared.Part.{Part}
 use Rattle.text.specs.declared.Part.the-variants.{Span, Missing}
-use Rattle.path.specs.Path.{split, pieceOf, isSkip}
+use Rattle.path.specs.Path.{split, pieceOf, isSkip, names, leadOf, restOf}
 
 abbrev pub firstOf : List Text → Text
 firstOf [] = []
@@ -31,6 +31,10 @@ leftAt at ps [] = At at
 leftAt at [] (c ∷ cs) = Nothing
 leftAt at (p ∷ ps) (c ∷ cs) =
     cond (isSkip (pieceOf p)) (leftAt (at + length p + 1) ps (c ∷ cs)) (cond (sameText p c) (leftAt (at + length p + 1) ps cs) Nothing)
+
+-- where what is left of p after the directory d begins; nowhere where they begin differently
+unfoldable pub leftAfter : Text → Text → Found
+leftAfter p d = cond (sameText (leadOf p) (leadOf d)) (leftAt (length (leadOf p)) (split (restOf p)) (names (split (restOf d)))) Nothing
 
 -- the first r bytes of a buffer are the text; what stands behind them is left open
 pub record Holds (r : ℕ) (out text : Text) : Type 0 where

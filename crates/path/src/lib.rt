@@ -7,17 +7,20 @@ use text::between;
 use text::find_byte;
 use text::find_last;
 use text::from;
+use text::is_node_modules;
 use text::put;
 use text::put_text;
+use text::same_text;
 use text::upto;
 ghost use mathlib.Core.Path.{_≡_};
 ghost use mathlib.Core.List.{_++_};
-ghost use Prim.Native.Nat.{_+_, _≤_};
+ghost use Prim.Native.Nat.{_+_, _-_, _≤_};
 ghost use lib.ListN.{length, take, drop};
 ghost use Rattle.text.specs.Bytes.{slash};
+ghost use Rattle.text.specs.Text.{sameText, eachOf, partOf};
 ghost use Rattle.text.specs.Emit.{Room, Emits};
-ghost use Rattle.path.specs.Path.{split, pieceOf, isSkip, starts, leadsDot, leadOf, joined, trimEnd, parentOf, joint, pushOf, joinOf, stepOf, normalizeWith};
-ghost use Rattle.path.specs.Places.{pieceEnd, Holds, slashIf};
+ghost use Rattle.path.specs.Path.{split, pieceOf, isSkip, isName, starts, leadsDot, leadOf, names, joined, trimEnd, parentOf, lastPiece, fileName, extension, samePath, under, stripPrefix, joint, pushOf, joinOf, stepOf, normalizeWith, normal, insideNodeModules};
+ghost use Rattle.path.specs.Places.{pieceEnd, nextPart, leftAt, leftAfter, slashIf, Holds};
 
 // What a piece between slashes is.
 pub enum Piece {
@@ -73,8 +76,53 @@ pub fn piece_end(s: &[u8], at: usize) -> usize
     at + i
 }
 
-// Whether a path begins with a slash: Path::is_absolute
-fn is_absolute(s: &[u8]) -> bool
+// The first component at or after `at`, where a piece begins.
+pub fn next_component(s: &[u8], at: usize) -> Part
+    ensures { λ r. ⌜ r ≡ nextPart at (split (drop at (now (s .entry)))) ⌝ }
+{
+    let mut i = at;
+    loop {
+        let e = piece_end(s, i);
+        if !is_skipped(between(s, i, e)) {
+            return Part::Span(i, e);
+        }
+        if s.len() <= e {
+            return Part::Missing;
+        }
+        i = e + 1;
+    }
+}
+
+// Whether a piece is a name: neither skipped nor `..`
+pub fn is_name(p: &[u8]) -> bool
+    ensures { λ r. ⌜ r ≡ isName (pieceOf (now (p .entry))) ⌝ }
+{
+    match piece_kind(p) {
+        Piece::Skip => false,
+        Piece::Up => false,
+        Piece::Name => true,
+    }
+}
+
+// Whether each piece from `at` on is a name.
+fn all_names(s: &[u8], at: usize) -> bool
+    ensures { λ r. ⌜ r ≡ eachOf (λ p. isName (pieceOf p)) (split (drop at (now (s .entry)))) ⌝ }
+{
+    let mut i = at;
+    loop {
+        let e = piece_end(s, i);
+        if !is_name(between(s, i, e)) {
+            return false;
+        }
+        if s.len() <= e {
+            return true;
+        }
+        i = e + 1;
+    }
+}
+
+// Whether s is a path from the root.
+pub fn is_absolute(s: &[u8]) -> bool
     ensures { λ r. ⌜ r ≡ starts slash (now (s .entry)) ⌝ }
 {
     if s.len() == 0 {
@@ -83,7 +131,37 @@ fn is_absolute(s: &[u8]) -> bool
     s[0] == SLASH
 }
 
-// Whether a path is `.` or begins `./`
+// Whether s is a normal path: from the root, each piece a name, no final slash; or the root itself.
+pub fn is_normal(s: &[u8]) -> bool
+    ensures { λ r. ⌜ r ≡ normal (now (s .entry)) ⌝ }
+{
+    if !is_absolute(s) {
+        return false;
+    }
+    if s.len() == 1 {
+        return true;
+    }
+    all_names(s, 1)
+}
+
+// Whether a component of s is `node_modules`.
+pub fn inside_node_modules(s: &[u8]) -> bool
+    ensures { λ r. ⌜ r ≡ insideNodeModules (now (s .entry)) ⌝ }
+{
+    let mut i = 0;
+    loop {
+        let e = piece_end(s, i);
+        if is_node_modules(between(s, i, e)) {
+            return true;
+        }
+        if s.len() <= e {
+            return false;
+        }
+        i = e + 1;
+    }
+}
+
+// Whether s is `.` or begins `./`
 fn leads_dot(s: &[u8]) -> bool
     ensures { λ r. ⌜ r ≡ leadsDot (now (s .entry)) ⌝ }
 {
@@ -99,7 +177,7 @@ fn leads_dot(s: &[u8]) -> bool
     s[1] == SLASH
 }
 
-// How long the `/` or the `.` is that a path begins with: 0 where it begins with neither.
+// How long the `/` or the `.` is that s begins with: 0 or 1.
 pub fn lead_len(s: &[u8]) -> usize
     ensures { λ r. ⌜ r ≡ length (leadOf (now (s .entry))) ⌝ }
 {
@@ -112,26 +190,150 @@ pub fn lead_len(s: &[u8]) -> usize
     0
 }
 
-// Where the last component of what stands from a on ends: a itself where there is none. Looks from the end.
+// Where the last piece of s begins.
+fn last_start(s: &[u8]) -> usize
+    ensures { λ r. ⌜ r ≡ length (now (s .entry)) - length (lastPiece (now (s .entry))) ⌝ }
+{
+    let Found::At(i) = find_last(s, SLASH) else {
+        return 0;
+    };
+    i + 1
+}
+
+// What follows the last slash of s.
+pub fn last_piece(s: &[u8]) -> &[u8]
+    ensures { λ r. ⌜ now r ≡ lastPiece (now (s .entry)) ⌝ }
+{
+    from(s, last_start(s))
+}
+
+// Where the last component of what stands from a on ends: at a where there is none. Looked for from the end.
 fn component_end(s: &[u8], a: usize) -> usize
-    requires { ⌜ a ≤ length (now s) ⌝ }
     ensures { λ r. ⌜ r ≡ a + length (joined (trimEnd (split (drop a (now (s .entry)))))) ⌝ }
 {
+    if s.len() <= a {
+        return a;
+    }
     let mut e = s.len();
-    while a < e {
-        let p = between(s, a, e);
-        let Found::At(i) = find_last(p, SLASH) else {
-            if is_skipped(p) {
-                return a;
-            }
-            return e;
-        };
-        if !is_skipped(from(p, i + 1)) {
+    loop {
+        let t = between(s, a, e);
+        let k = last_start(t);
+        if !is_skipped(from(t, k)) {
             return e;
         }
-        e = a + i;
+        if k == 0 {
+            return a;
+        }
+        e = a + k - 1;
     }
-    a
+}
+
+// Path::file_name, as a part of s.
+pub fn file_name(s: &[u8]) -> Part
+    ensures { λ r. ⌜ partOf (now (s .entry)) r ≡ fileName (now (s .entry)) ⌝ }
+{
+    let e = component_end(s, 0);
+    let a = last_start(upto(s, e));
+    if !is_name(between(s, a, e)) {
+        return Part::Missing;
+    }
+    Part::Span(a, e)
+}
+
+// Path::extension, as a part of s.
+pub fn extension(s: &[u8]) -> Part
+    ensures { λ r. ⌜ partOf (now (s .entry)) r ≡ extension (now (s .entry)) ⌝ }
+{
+    let Part::Span(a, e) = file_name(s) else {
+        return Part::Missing;
+    };
+    let Found::At(i) = find_last(between(s, a, e), DOT) else {
+        return Part::Missing;
+    };
+    if i == 0 {
+        return Part::Missing;
+    }
+    Part::Span(a + i + 1, e)
+}
+
+// Whether a and b begin with the same of `/`, `.` and neither.
+fn same_lead(a: &[u8], b: &[u8]) -> bool
+    ensures { λ r. ⌜ r ≡ sameText (leadOf (now (a .entry))) (leadOf (now (b .entry))) ⌝ }
+{
+    same_text(upto(a, lead_len(a)), upto(b, lead_len(b)))
+}
+
+// Where what is left of p from i on begins, once the components of d from j on are taken from its front.
+fn left_at(p: &[u8], i: usize, d: &[u8], j: usize) -> Found
+    ensures { λ r. ⌜ r ≡ leftAt i (split (drop i (now (p .entry)))) (names (split (drop j (now (d .entry))))) ⌝ }
+{
+    let mut x = i;
+    let mut y = j;
+    loop {
+        let Part::Span(a, b) = next_component(d, y) else {
+            return Found::At(x);
+        };
+        let Part::Span(u, v) = next_component(p, x) else {
+            return Found::Nothing;
+        };
+        if !same_text(between(p, u, v), between(d, a, b)) {
+            return Found::Nothing;
+        }
+        x = v + 1;
+        y = b + 1;
+    }
+}
+
+// Where what is left of p after the directory d begins.
+fn left_after(p: &[u8], d: &[u8]) -> Found
+    ensures { λ r. ⌜ r ≡ leftAfter (now (p .entry)) (now (d .entry)) ⌝ }
+{
+    if !same_lead(p, d) {
+        return Found::Nothing;
+    }
+    left_at(p, lead_len(p), d, lead_len(d))
+}
+
+// Path::starts_with: whether p lies under the directory d, by components.
+pub fn lies_under(p: &[u8], d: &[u8]) -> bool
+    ensures { λ r. ⌜ r ≡ under (now (p .entry)) (now (d .entry)) ⌝ }
+{
+    if d.len() == 0 {
+        return true;
+    }
+    match left_after(p, d) {
+        Found::At(_) => true,
+        Found::Nothing => false,
+    }
+}
+
+// Whether a and b are the same path, by components.
+pub fn same_path(a: &[u8], b: &[u8]) -> bool
+    ensures { λ r. ⌜ r ≡ samePath (now (a .entry)) (now (b .entry)) ⌝ }
+{
+    let Found::At(k) = left_after(a, b) else {
+        return false;
+    };
+    match next_component(a, k) {
+        Part::Span(_, _) => false,
+        Part::Missing => true,
+    }
+}
+
+// Path::strip_prefix: what is left of p after the directory d, as a part of p.
+pub fn strip_prefix(p: &[u8], d: &[u8]) -> Part
+    ensures { λ r. ⌜ partOf (now (p .entry)) r ≡ stripPrefix (now (p .entry)) (now (d .entry)) ⌝ }
+{
+    if d.len() == 0 {
+        return Part::Span(0, component_end(p, lead_len(p)));
+    }
+    let Found::At(k) = left_after(p, d) else {
+        return Part::Missing;
+    };
+    let Part::Span(u, _) = next_component(p, k) else {
+        return Part::Span(0, 0);
+    };
+    Part::Span(u, component_end(p, u))
 }
 
 // Where a path without its last component ends.

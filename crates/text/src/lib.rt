@@ -173,7 +173,7 @@ pub fn between(s: &[u8], a: usize, e: usize) -> &[u8]
 }
 
 // The bytes of s before the first b, or all of it where there is none.
-pub fn before(s: &[u8], b: u8) -> &[u8]
+pub fn part_before(s: &[u8], b: u8) -> &[u8]
     ensures { λ r. ⌜ now r ≡ beforeByte b (now (s .entry)) ⌝ }
 {
     let Found::At(i) = find_byte(s, b) else {
@@ -183,7 +183,7 @@ pub fn before(s: &[u8], b: u8) -> &[u8]
 }
 
 // The bytes of s after the first b, or none where there is none.
-pub fn after(s: &[u8], b: u8) -> &[u8]
+pub fn part_after(s: &[u8], b: u8) -> &[u8]
     ensures { λ r. ⌜ now r ≡ afterByte b (now (s .entry)) ⌝ }
 {
     let Found::At(i) = find_byte(s, b) else {

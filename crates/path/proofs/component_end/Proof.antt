@@ -1,71 +1,51 @@
-use Prim.Native.Nat.{_≤_}
-use lib.ListN.{length}
-use Rattle.path.proofs.Ends.{Ends, scan-start, scan-none, scan-one, scan-within, scan-last, scan-on, scan-empty}
 use borrow.Author.Tests.{not-true, not-false}
+use Rattle.path.proofs.Ends.{Trims, ends-past, ends-all, ends-within, ends-keep, ends-none, ends-less}
 use native.Mathlib.Omega.{arith}
 use borrow.Author.Needs.{needs}
 use Rattle.path.proofs.component_end.Statement.{statement}
 use Rattle.path.proofs.component_end.Tie as tie
-use Rattle.path.proofs.component_end.Reads as reads
-use Rattle.path.proofs.component_end.Lts as lts
-use Rattle.path.proofs.is_skipped.Reads as is-skipped-reads
-use Rattle.text.proofs.between.Reads as between-reads
-use Rattle.text.proofs.find_last.Reads as find-last-reads
-use Rattle.text.proofs.from.Reads as from-reads
 
 abbrev Inv-loop : tie.InvT-loop
-Inv-loop s a e₀ e = (e ≤ length s) × ((a ≤ e) × Ends s a e)
+Inv-loop s a e₀ e = Trims s a e
 
 abbrev μ-loop : tie.MeasureT-loop
 μ-loop s a e₀ e = e
 
+returns : tie.Need-returns Inv-loop μ-loop
+returns c = ends-past _ _ (c .if1 .taken)
+
 loop-holds : tie.Need-loop-holds Inv-loop μ-loop
-loop-holds c = (omega arith, (c .before .pre, scan-start (c .before .args .s .now) (c .before .args .a)))
+loop-holds c = ends-all _ _ (c .if1 .left)
 
 between-requires : tie.Need-between-requires Inv-loop μ-loop
 between-requires c κs = search needs
 
-find-last-requires : tie.Need-find-last-requires Inv-loop μ-loop
-find-last-requires c κs = search needs
-
-enum-known-i : tie.Need-enum-known-i Inv-loop μ-loop
-enum-known-i c = search needs
-
-enum-told : tie.Need-enum-told Inv-loop μ-loop
-enum-told c = search needs
-
-is-skipped-requires : tie.Need-is-skipped-requires Inv-loop μ-loop
-is-skipped-requires c κs = search needs
-
-returns : tie.Need-returns Inv-loop μ-loop
-returns c = scan-none _ _ _ (c .before .before .before .before .before .before .loop-test .taken) (c .before .before .before .before .before .before .before .loop .inv .0) (c .before .before .before .before .before .before .before .loop .inv .1 .1) _ (c .before .before .before .before .before .between .ensures) _ (c .before .before .before .before .find-last .ensures) (c .before .before .enum-told .given .1) _ (c .before .is-skipped .ensures) (c .if1 .taken)
-
-returns-2 : tie.Need-returns-2 Inv-loop μ-loop
-returns-2 c = scan-one _ _ _ (c .before .before .before .before .before .before .loop-test .taken) (c .before .before .before .before .before .before .before .loop .inv .0) (c .before .before .before .before .before .before .before .loop .inv .1 .1) _ (c .before .before .before .before .before .between .ensures) _ (c .before .before .before .before .find-last .ensures) (c .before .before .enum-told .given .1) _ (c .before .is-skipped .ensures) (c .if1 .left)
-
-add-from : tie.Need-add-from Inv-loop μ-loop
-add-from c = omega (arith, scan-within (c .before .before .before .before .before .before .before .before .args .s .now) (c .before .before .before .before .before .before .before .before .args .a) (c .before .before .before .before .before .before .loop .e) (c .before .before .before .before .before .loop-test .taken) (c .before .before .before .before .before .before .loop .inv .0) (c .before .before .before .before .before .before .loop .inv .1 .1) _ (c .before .before .before .before .between .ensures) _ (c .before .before .before .find-last .ensures) _ (c .before .i .given .1))
+last-start-requires : tie.Need-last-start-requires Inv-loop μ-loop
+last-start-requires c κs = search needs
 
 from-requires : tie.Need-from-requires Inv-loop μ-loop
 from-requires c κs = search needs
 
-is-skipped-requires-2 : tie.Need-is-skipped-requires-2 Inv-loop μ-loop
-is-skipped-requires-2 c κs = search needs
+is-skipped-requires : tie.Need-is-skipped-requires Inv-loop μ-loop
+is-skipped-requires c κs = search needs
+
+returns-2 : tie.Need-returns-2 Inv-loop μ-loop
+returns-2 c = ends-keep _ _ _ (c .before .before .before .before .before .loop .inv) _ (c .before .before .before .before .between .ensures) _ (c .before .before .before .last-start .ensures) _ (c .before .before .from .ensures) _ (c .before .is-skipped .ensures) (not-true _ (c .if2 .taken))
 
 returns-3 : tie.Need-returns-3 Inv-loop μ-loop
-returns-3 c = scan-last _ _ _ (c .before .before .before .before .before .before .before .before .loop-test .taken) (c .before .before .before .before .before .before .before .before .before .loop .inv .0) (c .before .before .before .before .before .before .before .before .before .loop .inv .1 .1) _ (c .before .before .before .before .before .before .before .between .ensures) _ (c .before .before .before .before .before .before .find-last .ensures) _ (c .before .before .before .before .i .given .1) _ (c .before .before .from .ensures) _ (c .before .is-skipped2 .ensures) (not-true _ (c .if2 .taken))
+returns-3 c = ends-none _ _ _ (c .before .before .before .before .before .before .loop .inv) _ (c .before .before .before .before .before .between .ensures) _ (c .before .before .before .before .last-start .ensures) _ (c .before .before .before .from .ensures) _ (c .before .before .is-skipped .ensures) (not-false _ (c .before .if2 .left)) (c .if3 .taken)
 
 add-e : tie.Need-add-e Inv-loop μ-loop
-add-e c = omega (arith, scan-within (c .before .before .before .before .before .before .before .before .before .before .before .args .s .now) (c .before .before .before .before .before .before .before .before .before .before .before .args .a) (c .before .before .before .before .before .before .before .before .before .loop .e) (c .before .before .before .before .before .before .before .before .loop-test .taken) (c .before .before .before .before .before .before .before .before .before .loop .inv .0) (c .before .before .before .before .before .before .before .before .before .loop .inv .1 .1) _ (c .before .before .before .before .before .before .before .between .ensures) _ (c .before .before .before .before .before .before .find-last .ensures) _ (c .before .before .before .before .i .given .1))
+add-e c = let a = c .before .before .before .before .before .before .before .before .before .args in let w = ends-within (a .s .now) (a .a) (c .before .before .before .before .before .before .loop .e) (c .before .before .before .before .before .before .loop .inv) _ (c .before .before .before .before .before .between .ensures) _ (c .before .before .before .before .last-start .ensures) in omega arith
+
+sub-e : tie.Need-sub-e Inv-loop μ-loop
+sub-e c = search needs
 
 loop-less : tie.Need-loop-less Inv-loop μ-loop
-loop-less c = omega (arith, scan-within (c .before .before .before .before .before .before .before .before .before .before .before .args .s .now) (c .before .before .before .before .before .before .before .before .before .before .before .args .a) (c .before .before .before .before .before .before .before .before .before .loop .e) (c .before .before .before .before .before .before .before .before .loop-test .taken) (c .before .before .before .before .before .before .before .before .before .loop .inv .0) (c .before .before .before .before .before .before .before .before .before .loop .inv .1 .1) _ (c .before .before .before .before .before .before .before .between .ensures) _ (c .before .before .before .before .before .before .find-last .ensures) _ (c .before .before .before .before .i .given .1))
+loop-less c = let a = c .before .before .before .before .before .before .before .before .before .args in let w = ends-within (a .s .now) (a .a) (c .before .before .before .before .before .before .loop .e) (c .before .before .before .before .before .before .loop .inv) _ (c .before .before .before .before .before .between .ensures) _ (c .before .before .before .before .last-start .ensures) in omega arith
 
 loop-again : tie.Need-loop-again Inv-loop μ-loop
-loop-again c = (omega (arith, scan-within (c .before .before .before .before .before .before .before .before .before .before .before .args .s .now) (c .before .before .before .before .before .before .before .before .before .before .before .args .a) (c .before .before .before .before .before .before .before .before .before .loop .e) (c .before .before .before .before .before .before .before .before .loop-test .taken) (c .before .before .before .before .before .before .before .before .before .loop .inv .0) (c .before .before .before .before .before .before .before .before .before .loop .inv .1 .1) _ (c .before .before .before .before .before .before .before .between .ensures) _ (c .before .before .before .before .before .before .find-last .ensures) _ (c .before .before .before .before .i .given .1)), (omega arith, scan-on _ _ _ (c .before .before .before .before .before .before .before .before .loop-test .taken) (c .before .before .before .before .before .before .before .before .before .loop .inv .0) (c .before .before .before .before .before .before .before .before .before .loop .inv .1 .1) _ (c .before .before .before .before .before .before .before .between .ensures) _ (c .before .before .before .before .before .before .find-last .ensures) _ (c .before .before .before .before .i .given .1) _ (c .before .before .from .ensures) _ (c .before .is-skipped2 .ensures) (not-false _ (c .if2 .left))))
-
-returns-4 : tie.Need-returns-4 Inv-loop μ-loop
-returns-4 c = scan-empty _ _ _ (c .loop-test .left) (c .before .loop .inv .1 .1)
+loop-again c = ends-less _ _ _ (c .before .before .before .before .before .before .loop .inv) _ (c .before .before .before .before .before .between .ensures) _ (c .before .before .before .before .last-start .ensures) _ (c .before .before .before .from .ensures) _ (c .before .before .is-skipped .ensures) (not-false _ (c .before .if2 .left)) (c .if3 .left)
 
 pub component-end-spec : {M : Type 1} → statement M
 component-end-spec =
@@ -73,19 +53,15 @@ component-end-spec =
     (tie.spec
     Inv-loop
     μ-loop
+    returns
     loop-holds
     between-requires
-    find-last-requires
-    enum-known-i
-    enum-told
-    is-skipped-requires
-    returns
-    returns-2
-    add-from
+    last-start-requires
     from-requires
-    is-skipped-requires-2
+    is-skipped-requires
+    returns-2
     returns-3
     add-e
+    sub-e
     loop-less
-    loop-again
-    returns-4)
+    loop-again)

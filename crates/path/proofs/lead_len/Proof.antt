@@ -1,11 +1,7 @@
-use Rattle.path.proofs.Parents.{lead-slash, lead-dot, lead-none}
+use Rattle.path.proofs.Components.{lead-slash, lead-dot, lead-none}
 use borrow.Author.Needs.{needs}
 use Rattle.path.proofs.lead_len.Statement.{statement}
 use Rattle.path.proofs.lead_len.Tie as tie
-use Rattle.path.proofs.lead_len.Reads as reads
-use Rattle.path.proofs.lead_len.Lts as lts
-use Rattle.path.proofs.is_absolute.Reads as is-absolute-reads
-use Rattle.path.proofs.leads_dot.Reads as leads-dot-reads
 
 is-absolute-requires : tie.Need-is-absolute-requires
 is-absolute-requires c κs = search needs

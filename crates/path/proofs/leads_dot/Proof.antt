@@ -1,10 +1,8 @@
-use Rattle.path.proofs.Parents.{leads-none, leads-other, leads-one, leads-two}
+use Rattle.path.proofs.Components.{leads-none, leads-other, leads-one, leads-two}
 use native.Mathlib.Omega.{arith}
 use borrow.Author.Needs.{needs}
 use Rattle.path.proofs.leads_dot.Statement.{statement}
 use Rattle.path.proofs.leads_dot.Tie as tie
-use Rattle.path.proofs.leads_dot.Reads as reads
-use Rattle.path.proofs.leads_dot.Lts as lts
 
 returns : tie.Need-returns
 returns c = leads-none _ (c .if1 .taken)

@@ -1,4 +1,4 @@
-use Rattle.path.proofs.Parents.{lead-le, parent-dot, parent-self, parent-lead, cut-within, cut-start, parent-more}
+use Rattle.path.proofs.Parents.{parent-dot, parent-self, parent-lead, cut-within, parent-more}
 use borrow.Author.Tests.{not-true, not-false}
 use native.Mathlib.Omega.{arith}
 use borrow.Author.Needs.{needs}
@@ -17,7 +17,7 @@ lead-len-requires : tie.Need-lead-len-requires
 lead-len-requires c κs = search needs
 
 component-end-requires : tie.Need-component-end-requires
-component-end-requires c κs = omega (arith, c .lead-len .ensures, lead-le (c .before .before .args .s .now))
+component-end-requires c κs = search needs
 
 leads-dot-requires : tie.Need-leads-dot-requires
 leads-dot-requires c κs = search needs
@@ -50,7 +50,7 @@ upto-requires : tie.Need-upto-requires
 upto-requires c κs = search needs
 
 component-end-requires-2 : tie.Need-component-end-requires-2
-component-end-requires-2 c κs = cut-start (c .before .before .before .before .before .before .before .before .before .before .args .s .now) _ (c .before .before .before .before .before .before .before .before .lead-len .ensures) _ (c .before .before .before .before .before .before .before .component-end .ensures) (c .before .before .before .before .before .before .if1 .left) _ (c .before .before .before .before .before .between .ensures) _ (c .before .before .before .before .find-last .ensures) _ (c .before .before .i .given .1) _ (c .upto .ensures)
+component-end-requires-2 c κs = search needs
 
 returns-4 : tie.Need-returns-4
 returns-4 c = parent-more _ _ (c .before .before .before .before .before .before .before .before .before .lead-len .ensures) _ (c .before .before .before .before .before .before .before .before .component-end .ensures) (c .before .before .before .before .before .before .before .if1 .left) _ (c .before .before .before .before .before .before .between .ensures) _ (c .before .before .before .before .before .find-last .ensures) _ (c .before .before .before .i .given .1) _ (c .before .upto .ensures) _ (c .component-end2 .ensures)

@@ -1,6 +1,4 @@
-use Prim.Native.Nat.{ℕ, suc, _+_, _-_, _≤_, _<_}
-use mathlib.Core.Path.{_≡_, refl, sym, ap, _∙_}
-use lib.ListN.{length, take, drop}
+use Prim.Native.Nat.{_-_}
 use Rattle.path.proofs.Pieces.{piece-none, piece-long, piece-name, piece-dot, piece-dot-name, piece-up}
 use native.Mathlib.Omega.{arith}
 use borrow.Author.Needs.{needs}

@@ -5,10 +5,10 @@ use Rattle.text.proofs.Parts.{after-none, after-at}
 use Rattle.text.proofs.Scans.{find-within}
 use native.Mathlib.Omega.{arith}
 use borrow.Author.Needs.{needs}
-use Rattle.text.proofs.after.Statement.{statement}
-use Rattle.text.proofs.after.Tie as tie
-use Rattle.text.proofs.after.Reads as reads
-use Rattle.text.proofs.after.Lts as lts
+use Rattle.text.proofs.part_after.Statement.{statement}
+use Rattle.text.proofs.part_after.Tie as tie
+use Rattle.text.proofs.part_after.Reads as reads
+use Rattle.text.proofs.part_after.Lts as lts
 use Rattle.text.proofs.find_byte.Reads as find-byte-reads
 use Rattle.text.proofs.from.Reads as from-reads
 use Rattle.text.proofs.upto.Reads as upto-reads
@@ -37,8 +37,8 @@ from-requires c κs = search needs
 returns-2 : tie.Need-returns-2
 returns-2 c = let a = c .before .before .before .before .before .before .args in c .from .ensures ∙ after-at (a .b) (a .s .now) _ (c .before .before .before .before .find-byte .ensures) _ (c .before .before .i .given .1)
 
-pub after-spec : {M : Type 1} → statement M
-after-spec =
+pub part-after-spec : {M : Type 1} → statement M
+part-after-spec =
     tie.close
     (tie.spec
     find-byte-requires
