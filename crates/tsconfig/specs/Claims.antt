@@ -21,15 +21,15 @@ pub record Site : Type 0 where
 abbrev pub allowJs : Settings → Bool
 allowJs c = Option·getD (c .named (flag 8)) false
 
--- the extensions that a config takes in: TypeScript's own, and JavaScript's with allowJs. is_file_extension_allowed_in_tsconfig
-unfoldable pub allowed : Settings → Option Text → Bool
-allowed c none = false
-allowed c (some e) = isTsExtension e || (allowJs c && isJsExtension e)
+-- the extensions that a config takes in: TypeScript's own, and JavaScript's where allowJs is on, js. is_file_extension_allowed_in_tsconfig
+unfoldable pub allowed : Bool → Option Text → Bool
+allowed js none = false
+allowed js (some e) = isTsExtension e || (js && isJsExtension e)
 
 -- no program's input: no extension, or JavaScript's without allowJs. is_extensionless_or_uncompiled_js
-unfoldable pub outside : Settings → Option Text → Bool
-outside c none = true
-outside c (some e) = not (allowJs c) && isJsExtension e
+unfoldable pub outside : Bool → Option Text → Bool
+outside js none = true
+outside js (some e) = not js && isJsExtension e
 
 -- the text ends with the byte
 unfoldable pub ends : ℕ → Text → Bool
@@ -45,19 +45,19 @@ unfoldable pub implied : Text → Text
 implied p = cond (someOf isSpecial (lastPiece p)) p (p ++ cond (ends slash p) (bytes "**/*") (bytes "/**/*"))
 
 -- is_glob_match: "patterns by text", so an equal text matches; a pattern that ends in a star only for the extensions that are taken in
-unfoldable pub matched : Settings → Text → Text → Bool
-matched c path p = sameText p path || ((not (ends star (implied p)) || allowed c (extension path)) && globOf (implied p) path)
+unfoldable pub matched : Bool → Text → Text → Bool
+matched js path p = sameText p path || ((not (ends star (implied p)) || allowed js (extension path)) && globOf (implied p) path)
 
 -- TSConfig Reference, include: without it nothing where `files` is there, else `**/*`, all below the config's directory
 unfoldable pub included : Site → Text → Option (List Text) → Bool
-included s path (some ps) = someOf (matched (s .config) path) ps
+included s path (some ps) = someOf (matched (allowJs (s .config)) path) ps
 included s path none =
-    not (isSome (s .config .named files)) && (under path (parentOf (s .path)) && allowed (s .config) (extension path))
+    not (isSome (s .config .named files)) && (under path (parentOf (s .path)) && allowed (allowJs (s .config)) (extension path))
 
 -- TSConfig Reference, exclude: what include takes in and these match is left out; no default (02, #113)
 unfoldable pub excluded : Site → Text → Option (List Text) → Bool
 excluded s path none = false
-excluded s path (some ps) = someOf (matched (s .config) path) ps
+excluded s path (some ps) = someOf (matched (allowJs (s .config)) path) ps
 
 -- TSConfig Reference, files: the files themselves, whatever exclude says. "`files` compares by components"
 unfoldable pub namedFile : Text → Option (List Text) → Bool
@@ -68,7 +68,7 @@ namedFile path (some fs) = someOf (λ f. samePath f path) fs
 unfoldable pub claims : Text → Site → Bool
 claims path s =
     namedFile path (s .config .named files)
-    || (not (outside (s .config) (extension path))
+    || (not (outside (allowJs (s .config)) (extension path))
     && (included s path (s .config .named include) && not (excluded s path (s .config .named exclude))))
 
 unfoldable pub isEmptyList : Option (List Text) → Bool
