@@ -94,18 +94,6 @@ module _ (s : Text) (i e : ℕ) (h : e ≡ pieceEnd i s) where
       next-on f l = rw (here-next l, ← d, ← k, f, d, here-long)
 
     module _ (ok : Text → Bool) (k : r ≡ ok t) where
-      pub each-not : r ≡ false → false ≡ eachOf ok (split (drop i s))
-      unfolding eachOf
-      each-not f = rw (here .1 .1, ← d, ← k, f)
-
-      pub each-end : r ≡ true → length s ≤ e → true ≡ eachOf ok (split (drop i s))
-      unfolding eachOf
-      each-end f l = rw (here-last l, ← d, ← k, f)
-
-      pub each-on : r ≡ true → e < length s → eachOf ok (split (drop (e + 1) s)) ≡ eachOf ok (split (drop i s))
-      unfolding eachOf
-      each-on f l = rw (here-next l, ← d, ← k, f)
-
       pub some-here : r ≡ true → true ≡ someOf ok (split (drop i s))
       unfolding someOf
       some-here f = rw (here .1 .1, ← d, ← k, f)

@@ -17,9 +17,9 @@ ghost use mathlib.Core.List.{_++_};
 ghost use Prim.Native.Nat.{_+_, _-_, _≤_};
 ghost use lib.ListN.{length, take, drop};
 ghost use Rattle.text.specs.Bytes.{slash};
-ghost use Rattle.text.specs.Text.{sameText, eachOf, partOf};
+ghost use Rattle.text.specs.Text.{sameText, partOf};
 ghost use Rattle.text.specs.Emit.{Room, Emits};
-ghost use Rattle.path.specs.Path.{split, pieceOf, isSkip, isName, starts, leadsDot, leadOf, names, joined, trimEnd, parentOf, lastPiece, fileName, extension, samePath, under, stripPrefix, joint, pushOf, joinOf, stepOf, normalizeWith, normal, insideNodeModules};
+ghost use Rattle.path.specs.Path.{split, pieceOf, isSkip, isName, starts, leadsDot, leadOf, names, joined, trimEnd, parentOf, lastPiece, fileName, extension, samePath, under, stripPrefix, joint, pushOf, joinOf, stepOf, normalizeWith, insideNodeModules};
 ghost use Rattle.path.specs.Places.{pieceEnd, nextPart, leftAt, leftAfter, slashIf, Holds};
 
 // What a piece between slashes is.
@@ -104,23 +104,6 @@ pub fn is_name(p: &[u8]) -> bool
     }
 }
 
-// Whether each piece from `at` on is a name.
-fn all_names(s: &[u8], at: usize) -> bool
-    ensures { λ r. ⌜ r ≡ eachOf (λ p. isName (pieceOf p)) (split (drop at (now (s .entry)))) ⌝ }
-{
-    let mut i = at;
-    loop {
-        let e = piece_end(s, i);
-        if !is_name(between(s, i, e)) {
-            return false;
-        }
-        if s.len() <= e {
-            return true;
-        }
-        i = e + 1;
-    }
-}
-
 // Whether s is a path from the root.
 pub fn is_absolute(s: &[u8]) -> bool
     ensures { λ r. ⌜ r ≡ starts slash (now (s .entry)) ⌝ }
@@ -129,19 +112,6 @@ pub fn is_absolute(s: &[u8]) -> bool
         return false;
     }
     s[0] == SLASH
-}
-
-// Whether s is a normal path: from the root, each piece a name, no final slash; or the root itself.
-pub fn is_normal(s: &[u8]) -> bool
-    ensures { λ r. ⌜ r ≡ normal (now (s .entry)) ⌝ }
-{
-    if !is_absolute(s) {
-        return false;
-    }
-    if s.len() == 1 {
-        return true;
-    }
-    all_names(s, 1)
 }
 
 // Whether a component of s is `node_modules`.
