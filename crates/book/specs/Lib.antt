@@ -3,4 +3,9 @@ pub mod Command
 pub mod Rules
 pub mod Record
 pub mod Book
+pub mod Index
+pub mod Sound
+pub mod Steps
+pub mod State
+pub mod Checks
 pub mod Find

@@ -1,4 +1,5 @@
--- Demand 3, and what document 01 says of the definitions in words.
+-- Demand 3, what document 01 says of the definitions in words, and worked examples.
 pub mod Demand3
 pub mod Laws
 pub mod Supplied
+pub mod Cases

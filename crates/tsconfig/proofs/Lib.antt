@@ -1,3 +1,4 @@
--- Laws of the definitions of specs/.
+-- Laws of the definitions of specs/, and worked examples.
 pub mod Flat
 pub mod Map
+pub mod Cases

@@ -1,0 +1,1 @@
+// The definitions of the questions, held against the crate by computation.
