@@ -1,12 +1,14 @@
--- A turn of the loop over a table's rows. Assumes nothing.
-use mathlib.Core.Path.{_≡_, refl}
-use mathlib.Core.List.{List, _∷_}
-use mathlib.Core.Bool.{Bool, true, false}
+-- Two strings that meet, and a turn of the loop over a table's rows. Assumes nothing.
+use mathlib.Core.Path.{_≡_, refl, ap}
+use mathlib.Core.List.{List, [], _∷_}
+use mathlib.Core.Bool.{Bool, true, false, _&&_}
 use Prim.Native.Nat.{ℕ, zero, suc, _-_, _≤_, _<_}
 use native.Mathlib.Omega.{arith}
-use lib.ListN.{getD, take, drop}
+use lib.ListN.{length, getD, take, drop}
+use lib.Dec.{eqb}
 use Rattle.text.specs.Bytes.{Text}
-use Rattle.text.specs.Text.{someOf}
+use Rattle.text.specs.Text.{prefixOf, sameText, someOf}
+use Rattle.strings.specs.Strings.{covers}
 use Rattle.book.specs.State.{texts}
 
 module _ (P : Text → Bool) (text : Text) (starts lens : List ℕ) (i : ℕ) (h : 0 < i) (t : Text) (e : t ≡ take (getD lens (i - 1) 0) (drop (getD starts (i - 1) 0) text)) where
@@ -30,3 +32,11 @@ pub row-none : (P : Text → Bool) (text : Text) (starts lens : List ℕ) (i : �
 unfolding texts someOf
 row-none P text starts lens zero h = refl
 row-none P text starts lens (suc i) h = absurd (omega (arith, h))
+
+-- of two strings of one length, one covers the other where they are the same
+pub covers-same : (a b : Text) → length a ≡ length b → covers b a ≡ sameText a b
+unfolding covers prefixOf sameText
+covers-same [] [] e = refl
+covers-same [] (y ∷ b) e = absurd (omega (arith, e))
+covers-same (x ∷ a) [] e = absurd (omega (arith, e))
+covers-same (x ∷ a) (y ∷ b) e = ap (λ (t : Bool). eqb x y && t) (covers-same a b (omega (arith, e)))

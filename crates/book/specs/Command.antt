@@ -69,12 +69,16 @@ textOption = 0x13
 abbrev pub end : ℕ
 end = 0x14
 
--- "operands have fixed widths": the operand bytes of the commands 00 to 14; 9 where there is no such command
+-- stands for a width where there is no such command
+abbrev pub noCommand : ℕ
+noCommand = 9
+
+-- "operands have fixed widths": the operand bytes of the commands 00 to 14
 abbrev pub widths : List ℕ
-widths = 9 ∷ 4 ∷ 0 ∷ 4 ∷ 0 ∷ 4 ∷ 0 ∷ 4 ∷ 4 ∷ 4 ∷ 0 ∷ 4 ∷ 4 ∷ 4 ∷ 0 ∷ 4 ∷ 4 ∷ 4 ∷ 2 ∷ 5 ∷ 0 ∷ []
+widths = noCommand ∷ 4 ∷ 0 ∷ 4 ∷ 0 ∷ 4 ∷ 0 ∷ 4 ∷ 4 ∷ 4 ∷ 0 ∷ 4 ∷ 4 ∷ 4 ∷ 0 ∷ 4 ∷ 4 ∷ 4 ∷ 2 ∷ 5 ∷ 0 ∷ []
 
 unfoldable pub widthOf : ℕ → ℕ
-widthOf op = cond (ltb op 0x15) (getD widths op 0) 9
+widthOf op = cond (ltb op 0x15) (getD widths op 0) noCommand
 
 -- "2 bytes each, low byte first"
 abbrev pub word : Text → ℕ → ℕ
@@ -96,7 +100,7 @@ pub data Decoded : Type 0 where
 -- "unknown byte, operands cut short": the command byte at the head of s, with `rest` after its operands
 unfoldable pub decodeAt : ℕ → ℕ → Text → (ℕ → Decoded) → Decoded
 decodeAt at w s rest =
-    cond (eqb w 9) (broken at) (cond (leb (length s) w) (broken at) (command at (operands w s) (rest w)))
+    cond (eqb w noCommand) (broken at) (cond (leb (length s) w) (broken at) (command at (operands w s) (rest w)))
 
 -- "A command is one byte; operands have fixed widths": the first k bytes belong to the command before
 unfoldable pub decode : ℕ → ℕ → Text → Decoded

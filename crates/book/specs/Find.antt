@@ -12,7 +12,7 @@ unfoldable pub find : Text → List Text → Option ℕ
 find p [] = none
 find p (q ∷ qs) = cond (sameText p q) (some 0) (Option·map suc (find p qs))
 
--- "A directory is a proper ancestor of a record's path." The empty path is none.
+-- "A directory is a proper ancestor of a record's path." The empty path is none, as in the crate's file system; no answer hangs on it.
 unfoldable pub isDir : List Text → Text → Bool
 isDir paths p = starts slash p && someOf (prefixOf (pushOf p [])) paths
 

@@ -29,12 +29,12 @@ unfoldable pub tally : ℕ → List Cmd → ℕ
 tally k [] = 0
 tally k (d ∷ ds) = cond (eqb (slot d) k) (suc (tally k ds)) (cond (eqb (slot d) key && eqb k target) 0 (tally k ds))
 
--- "02, 04, 06, 0A and 0E make a list present; items follow at any later place in the record": what each command must come after in its record
+-- "02, 04, 06, 0A and 0E make a list present, perhaps empty; items follow at any later place in the record": what each command must come after in its record
 -- (all but BEGIN after a BEGIN)
 abbrev pub openers : List ℕ
 openers = 1 ∷ 0 ∷ 1 ∷ 2 ∷ 1 ∷ 4 ∷ 1 ∷ 6 ∷ 1 ∷ 1 ∷ 1 ∷ 10 ∷ 11 ∷ 1 ∷ 1 ∷ 14 ∷ 1 ∷ 1 ∷ 1 ∷ 1 ∷ 1 ∷ []
 
--- "At most: per record 8 extends entries, 16 references, 64 items in each of files, include, exclude, 32 keys, 8 root dirs; 8 targets per key"
+-- "At most: .. per record 8 extends entries, 16 references, 64 items in each of files, include, exclude, 32 keys, 8 root dirs; 8 targets per key"
 -- 0: "other commands come once"
 abbrev pub limits : List ℕ
 limits = 0 ∷ 0 ∷ 0 ∷ 64 ∷ 0 ∷ 64 ∷ 0 ∷ 64 ∷ 8 ∷ 0 ∷ 0 ∷ 32 ∷ 8 ∷ 16 ∷ 0 ∷ 8 ∷ 0 ∷ 0 ∷ 0 ∷ 0 ∷ 0 ∷ []

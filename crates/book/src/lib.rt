@@ -5,7 +5,6 @@ use strings::is_record_path;
 use strings::is_string;
 use strings::obeys_lead;
 use text::from;
-use text::same_text;
 use text::upto;
 ghost use mathlib.Core.Path.{_≡_};
 ghost use mathlib.Core.Bool.{true, false, not, _||_, cond};
@@ -477,7 +476,8 @@ fn push(st: State, c: Cmd, k: usize) -> State
     next
 }
 
-// Whether two strings meet: as paths, one the other or its ancestor; as keys, the same.
+// Whether two strings meet: as paths, one the other or its ancestor; as keys, the same. Of two strings of one length, one covers the other
+// where they are the same.
 fn do_meet(paths: bool, a: &[u8], b: &[u8]) -> bool
     ensures { λ r. ⌜ r ≡ meets paths (now (a .entry)) (now (b .entry)) ⌝ }
 {
@@ -487,7 +487,10 @@ fn do_meet(paths: bool, a: &[u8], b: &[u8]) -> bool
         }
         return covers(b, a);
     }
-    same_text(a, b)
+    if a.len() != b.len() {
+        return false;
+    }
+    covers(b, a)
 }
 
 // Whether one of the strings of the first n rows meets s.

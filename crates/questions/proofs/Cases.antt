@@ -21,7 +21,7 @@ use Rattle.questions.specs.Questions.{fit, asked, build, listed as liste
 use Rattle.strings.specs.Strings.{stringRule, recordPath, leadRule, afterConfigDir, twoStars, patternText, patternRule, covers, askedPath}
 use Rattle.text.specs.Text.{prefixOf, sameText, someOf, eachOf, findFrom, findLastFrom}
 use Rattle.tsconfig.specs.Build.{withoutSlashes, inConfigDir, substituted, adjusted, builtValue, built}
-use Rattle.tsconfig.specs.Claims.{allowed, outside, ends, implied, matched, included, excluded, namedFile, claims, isEmptyList, isNone, solutionStyle, claimsOwnership, solution}
+use Rattle.tsconfig.specs.Claims.{allowed, outside, ends, implied, matched, included, excluded, namedFile, claims, isEmptyList, noReferences, solutionStyle, claimsOwnership, solution}
 use Rattle.tsconfig.specs.Config.{merge, mapped}
 use Rattle.tsconfig.specs.Listing.{row, rows, items, keyRows, mapping as mapping-in-Listing, decimal, ifNamed, flagRow, textRow, flags, texts, listing}
 use Rattle.tsconfig.specs.Mapping.{equalKey, prefixLen, longer, bestKey, filledAt, filled, fromBest, fromEqual, fromPaths, aliases, fromBaseUrl, orIfNone, candidates as candidates-in-Mapping, longerText, rootAbove, inRoots, fromRoot, rootTries, tries as tries-in-Mapping}
@@ -110,5 +110,5 @@ table =
     ∷ []
 
 pub cases : map (λ r. answer (r .ask)) table ≡ map (λ r. r .told) table
-unfolding laid tsconfigBuild tsconfigOwner tsconfigCandidates tsconfigTries returned output next finish judge verdict widthOf operands decodeAt decode find isDir configPath locate only firstOf strings single listed targetsOf keysOf mapping optionOf recordPathOf flagOf textOf slot tally inRange opened fresh follows inOrder tooMany ownRule goodString pathOf keysOf-in-Rules clash givenBefore faultOf fault afterStars afterStar tokenAt tokens eat after-in-Glob afterDirs matchTokens globOf matchesAt partAt keyPart onFirst split pieceOf starts leadsDot names heads components sameList leftOf isSome samePath under joined ending trimEnd trimStart allButLast leadOf trimmed withoutLast parentOf leftPieces stripPrefix lastOf lastPiece ifName fileName afterDot extensionOf extension joint pushOf stepBy stepOf walkOf normalizeWith normal insideNodeModules fit asked build listed-in-Questions candidatesOf triesOf ownerReply owner book stringRule recordPath leadRule afterConfigDir twoStars patternText patternRule covers askedPath prefixOf sameText someOf eachOf findFrom findLastFrom withoutSlashes inConfigDir substituted adjusted builtValue built allowed outside ends implied matched included excluded namedFile claims isEmptyList isNone solutionStyle claimsOwnership solution merge mapped row rows items keyRows mapping-in-Listing decimal ifNamed flagRow textRow flags texts listing equalKey prefixLen longer bestKey filledAt filled fromBest fromEqual fromPaths aliases fromBaseUrl orIfNone candidates-in-Mapping longerText rootAbove inRoots fromRoot rootTries tries-in-Mapping placed placedValue ownBase parse said parsed meant entry loadBy load referTo referencesOf loadRecord loadFound loadPath folders owned ownerAt ownerFrom ownerOf
+unfolding laid tsconfigBuild tsconfigOwner tsconfigCandidates tsconfigTries returned output next finish judge verdict widthOf operands decodeAt decode find isDir configPath locate only firstOf strings single listed targetsOf keysOf mapping optionOf recordPathOf flagOf textOf slot tally inRange opened fresh follows inOrder tooMany ownRule goodString pathOf keysOf-in-Rules clash givenBefore faultOf fault afterStars afterStar tokenAt tokens eat after-in-Glob afterDirs matchTokens globOf matchesAt partAt keyPart onFirst split pieceOf starts leadsDot names heads components sameList leftOf isSome samePath under joined ending trimEnd trimStart allButLast leadOf trimmed withoutLast parentOf leftPieces stripPrefix lastOf lastPiece ifName fileName afterDot extensionOf extension joint pushOf stepBy stepOf walkOf normalizeWith normal insideNodeModules fit asked build listed-in-Questions candidatesOf triesOf ownerReply owner book stringRule recordPath leadRule afterConfigDir twoStars patternText patternRule covers askedPath prefixOf sameText someOf eachOf findFrom findLastFrom withoutSlashes inConfigDir substituted adjusted builtValue built allowed outside ends implied matched included excluded namedFile claims isEmptyList noReferences solutionStyle claimsOwnership solution merge mapped row rows items keyRows mapping-in-Listing decimal ifNamed flagRow textRow flags texts listing equalKey prefixLen longer bestKey filledAt filled fromBest fromEqual fromPaths aliases fromBaseUrl orIfNone candidates-in-Mapping longerText rootAbove inRoots fromRoot rootTries tries-in-Mapping placed placedValue ownBase parse said parsed meant entry loadBy load referTo referencesOf loadRecord loadFound loadPath folders owned ownerAt ownerFrom ownerOf
 cases = refl

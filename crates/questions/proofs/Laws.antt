@@ -13,7 +13,7 @@ use Rattle.text.specs.Text.{sameText, someOf}
 use Rattle.path.specs.Path.{split, leadsDot, pieceOf, heads, components, leftOf, isSome, under, samePath, sameList, names, starts, extension}
 use Rattle.book.specs.Answer.{Answer, refused, given}
 use Rattle.tsconfig.specs.Config.{Field, files, include, exclude}
-use Rattle.tsconfig.specs.Claims.{Site, allowJs, solutionStyle, isNone, isEmptyList, claims, namedFile, included, excluded, outside}
+use Rattle.tsconfig.specs.Claims.{Site, allowJs, solutionStyle, noReferences, isEmptyList, claims, namedFile, included, excluded, outside}
 use Rattle.questions.specs.Questions.{Outcome, Reply, fit, output}
 
 same-self : (a : Text) → sameText a a ≡ true
@@ -96,7 +96,7 @@ and-left false b h = absurd (false≢true h)
 pub solution-style-idle : (path : Text) (s : Site) (refs : List Site) → solutionStyle s refs ≡ true → claims path s ≡ false
 unfolding solutionStyle claims
 solution-style-idle path s refs h =
-    let e = and-right (not (isNone refs)) _ h in
+    let e = and-right (not (noReferences refs)) _ h in
     rw (not-listed path (s .config .named files) (and-left (isEmptyList (s .config .named files)) _ e)) (
     rw (not-included s path (s .config .named include) (and-right (isEmptyList (s .config .named files)) _ e)) (
     and-false (not (outside (allowJs (s .config)) (extension path)))))

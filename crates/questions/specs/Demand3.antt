@@ -1,4 +1,4 @@
--- Demand 3 over the definitions of the questions: one record about a config that loads without refusal.
+-- Demand 3 over the definitions of the questions: one record about a config that loads without refusal. What is quoted are its sentences.
 use mathlib.Core.Path.{_≡_}
 use mathlib.Core.List.{List, map}
 use Prim.Native.Nat.{ℕ}
@@ -28,7 +28,7 @@ pub record Inherits (rs : List Parsed) (c : ℕ) (p : Project) : Type 1 where
   pub bracketed : (w : Tree Merged) → leaves w ≡ map (seen rs .own) (line (seen rs) c) → siteAt rs c (eval merge w) ≡ flatSite rs c
   pub own-way : leaves (ownWay (seen rs) (seen rs .size) c) ≡ map (seen rs .own) (line (seen rs) c)
   pub flattened : p .site ≡ flatSite rs c
-  -- "the flat config yields the build's whole output"
+  -- "the flat config yields, where not refused, the build's whole output, .."
   pub output : (references : List Text) → listing references (p .site .config) ≡ listing references ((flatSite rs c) .config)
   -- "whatever path is asked, the loaded config claims it exactly when the flat one does"; and with the references, as owner asks
   pub claimed : (path : Text) → claims path (p .site) ≡ claims path (flatSite rs c)
@@ -36,5 +36,5 @@ pub record Inherits (rs : List Parsed) (c : ℕ) (p : Project) : Type 1 where
   -- "whatever specifier is asked, the candidates are the flat one's, in order"
   pub mapped-to : (s : Text) → candidates (p .site .config) s ≡ candidates ((flatSite rs c) .config) s
   pub tried : (dir s : Text) → tries (p .site .config) dir s ≡ tries ((flatSite rs c) .config) dir s
-  -- "as many as the extends entries of the distinct configs in the line, each once"
+  -- "as many as the extends entries of the distinct configs in the line, each once, however often the line repeats one"
   pub merged : p .merges ≡ entriesOf (seen rs) (line (seen rs) c)

@@ -101,7 +101,7 @@ unfoldable pub returned : Outcome → List ℕ
 returned (refused n p) = n ∷ p ∷ 0 ∷ 0 ∷ 0 ∷ []
 returned (given r) = 0 ∷ 0 ∷ r .first ∷ r .second ∷ length (r .bytes) ∷ []
 
--- "lent output holds, after a call, the whole answer and then its old bytes, or on a refusal its old bytes alone"
+-- Demand 1: "lent output holds, after a call, the whole answer and then its old bytes, or on a refusal its old bytes alone"
 unfoldable pub output : Outcome → Text → Text
 output (refused n p) old = old
 output (given r) old = r .bytes ++ drop (length (r .bytes)) old

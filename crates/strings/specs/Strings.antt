@@ -20,7 +20,7 @@ plainByte x = leb 0x20 x && (leb x 0x7E && not (eqb x 0x5C))
 unfoldable pub stringRule : Text → Bool
 stringRule s = leb (length s) 512 && eachOf plainByte s
 
--- "A record's path is normal, not `/`, without `* ? { } [ ] ! #`."
+-- "A record's path is normal, not `/`, without `* ? { } [ ] ! #`." A normal path of one byte is `/`.
 unfoldable pub recordPath : Text → Bool
 recordPath s = normal s && (not (leb (length s) 1) && eachOf (noneOf (bytes "*?{}[]!#")) s)
 

@@ -28,7 +28,7 @@ use Rattle.path.specs.Path.{onFirst, split, pieceOf, starts, leadsDot, names, h
 use Rattle.strings.specs.Strings.{stringRule, recordPath, leadRule, afterConfigDir, twoStars, patternText, patternRule, covers}
 use Rattle.text.specs.Text.{prefixOf, sameText, someOf, eachOf, findFrom, findLastFrom}
 use Rattle.tsconfig.specs.Build.{withoutSlashes, inConfigDir, substituted, adjusted, builtValue}
-use Rattle.tsconfig.specs.Claims.{allowed, outside, ends, implied, matched, included, excluded, namedFile, isEmptyList, isNone, solutionStyle}
+use Rattle.tsconfig.specs.Claims.{allowed, outside, ends, implied, matched, included, excluded, namedFile, isEmptyList, noReferences, solutionStyle}
 use Rattle.tsconfig.specs.Config.{mapped}
 use Rattle.tsconfig.specs.Listing.{row, rows, items, keyRows, mapping as mapping-in-Listing, decimal, ifNamed, flagRow, textRow, flags, texts}
 use Rattle.tsconfig.specs.Mapping.{equalKey, prefixLen, longer, bestKey, filledAt, filled, fromBest, fromEqual, fromPaths, aliases, fromBaseUrl, orIfNone, longerText, rootAbove, inRoots, fromRoot, rootTries}
@@ -139,6 +139,8 @@ table =
     gets "files=/q/\nfiles=/q/x/../y/\nfiles=/q/a/${configDir}\nbaseUrl=/q/u\nbase=/q/u\nkey=k\ntarget=/q/*\ntarget=/q/*\nrootDir=/q/r\noutDir=/q/\n" ∷ [])
     ∷ (builds "/tsconfig.json" (p (command.outDir says "${configDir}" ∷ command.declarationDir says "${configDir}/../d" ∷ turns 10 1 ∷ turns 2 0 ∷ option 6 "" ∷ option 0 "react" ∷ []))
     gets "base=/p\noutDir=/\ndeclarationDir=/../d\nflag 2=0\nflag 10=1\ntext 0=react\ntext 6=\n" ∷ [])
+    -- what a `..` drops goes with the slashes before it; the base itself stays as it is
+    ∷ (builds "/p/tsconfig.json" (p (baseUrl "//u//w" ++ paths (key "k" (".." ∷ "." ∷ "../x" ∷ "../.." ∷ [])))) gets "baseUrl=//u//w\nbase=//u//w\nkey=k\ntarget=//u\ntarget=//u//w\ntarget=//u/x\ntarget=/\n" ∷ [])
     -- the mapping: the longest prefix, of equal ones the earlier
     ∷ (maps (p (paths (key "*" ("1/*" ∷ []) ++ key "a*" ("2/*" ∷ "3" ∷ [])))) "abc" gets "/p/2/bc" ∷ "/p/3" ∷ [])
     ∷ (maps (p (paths (key "a*c" ("1/*" ∷ []) ++ key "a*" ("2/*" ∷ [])))) "abc" gets "/p/1/b" ∷ [])
@@ -200,5 +202,5 @@ table =
     ∷ []
 
 pub cases : map (λ r. answer (r .ask)) table ≡ map (λ r. map bytes (r .told)) table
-unfolding verdict built claims claimsOwnership solution merge listing candidates tries parsed next finish judge widthOf operands decodeAt decode only firstOf strings single listed targetsOf keysOf mapping optionOf recordPathOf flagOf textOf slot tally inRange opened fresh follows inOrder tooMany ownRule goodString pathOf keysOf-in-Rules clash givenBefore faultOf fault afterStars afterStar tokenAt tokens eat after afterDirs matchTokens globOf matchesAt partAt keyPart onFirst split pieceOf starts leadsDot names heads components sameList leftOf isSome samePath under joined ending trimEnd trimStart allButLast leadOf trimmed withoutLast parentOf leftPieces stripPrefix lastOf lastPiece ifName fileName afterDot extensionOf extension joint pushOf stepBy stepOf walkOf normalizeWith normal insideNodeModules stringRule recordPath leadRule afterConfigDir twoStars patternText patternRule covers prefixOf sameText someOf eachOf findFrom findLastFrom withoutSlashes inConfigDir substituted adjusted builtValue allowed outside ends implied matched included excluded namedFile isEmptyList isNone solutionStyle mapped row rows items keyRows mapping-in-Listing decimal ifNamed flagRow textRow flags texts equalKey prefixLen longer bestKey filledAt filled fromBest fromEqual fromPaths aliases fromBaseUrl orIfNone longerText rootAbove inRoots fromRoot rootTries placed placedValue ownBase parse said
+unfolding verdict built claims claimsOwnership solution merge listing candidates tries parsed next finish judge widthOf operands decodeAt decode only firstOf strings single listed targetsOf keysOf mapping optionOf recordPathOf flagOf textOf slot tally inRange opened fresh follows inOrder tooMany ownRule goodString pathOf keysOf-in-Rules clash givenBefore faultOf fault afterStars afterStar tokenAt tokens eat after afterDirs matchTokens globOf matchesAt partAt keyPart onFirst split pieceOf starts leadsDot names heads components sameList leftOf isSome samePath under joined ending trimEnd trimStart allButLast leadOf trimmed withoutLast parentOf leftPieces stripPrefix lastOf lastPiece ifName fileName afterDot extensionOf extension joint pushOf stepBy stepOf walkOf normalizeWith normal insideNodeModules stringRule recordPath leadRule afterConfigDir twoStars patternText patternRule covers prefixOf sameText someOf eachOf findFrom findLastFrom withoutSlashes inConfigDir substituted adjusted builtValue allowed outside ends implied matched included excluded namedFile isEmptyList noReferences solutionStyle mapped row rows items keyRows mapping-in-Listing decimal ifNamed flagRow textRow flags texts equalKey prefixLen longer bestKey filledAt filled fromBest fromEqual fromPaths aliases fromBaseUrl orIfNone longerText rootAbove inRoots fromRoot rootTries placed placedValue ownBase parse said
 cases = refl

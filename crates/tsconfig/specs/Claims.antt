@@ -76,13 +76,14 @@ isEmptyList none = false
 isEmptyList (some []) = true
 isEmptyList (some (x ∷ xs)) = false
 
-unfoldable pub isNone : List Site → Bool
-isNone [] = true
-isNone (r ∷ rs) = false
+unfoldable pub noReferences : List Site → Bool
+noReferences [] = true
+noReferences (r ∷ rs) = false
 
--- "have `references` and explicit empty `files` / `include`"
+-- "have `references` and explicit empty `files` / `include`". As the Rust has it; it changes no answer, since such a config claims nothing by
+-- itself (questions/proofs/Laws, solution-style-idle).
 unfoldable pub solutionStyle : Site → List Site → Bool
-solutionStyle s refs = not (isNone refs) && (isEmptyList (s .config .named files) && isEmptyList (s .config .named include))
+solutionStyle s refs = not (noReferences refs) && (isEmptyList (s .config .named files) && isEmptyList (s .config .named include))
 
 -- claims_ownership_of: a reference that claims the path counts for the config that holds it
 unfoldable pub claimsOwnership : Text → Site → List Site → Bool

@@ -43,7 +43,7 @@ module _ {Val : Field → Type 0} {B : Type 0} where
         base = Option·getD (baseIf baseUrl a orElse baseIf baseUrl b) (Option·getD (baseIf paths a) (b .base));
       }
 
-  -- The flat config (01's term) of a line, its nearest and the rest: "each inherited field is that of the first in the line to name it, and
+  -- The flat config (01's term) of a line, its nearest and the rest. Demand 3: "In its flat config each inherited field is that of the first in the line to name it, and
   -- the paths base that of the first naming baseUrl, else of the first naming paths, else of the last in the line"
   unfoldable pub flat : Config Val B → List (Config Val B) → Config Val B
   flat c cs =

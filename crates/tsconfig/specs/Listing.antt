@@ -31,7 +31,7 @@ unfoldable pub mapping : List Key → Text
 mapping [] = bytes "paths" ++ 10 ∷ []
 mapping (k ∷ ks) = keyRows (k ∷ ks)
 
--- an id in decimal
+-- an id, which is below 20, in decimal
 unfoldable pub decimal : ℕ → Text
 decimal id = cond (ltb id 10) ((48 + id) ∷ []) (49 ∷ (38 + id) ∷ [])
 

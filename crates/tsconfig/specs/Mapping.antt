@@ -98,7 +98,8 @@ unfoldable pub rootTries : Text → Option (List Text) → List Text
 rootTries p none = []
 rootTries p (some rs) = fromRoot p rs (rootAbove p none rs)
 
--- "Tries (01's term): the paths that `resolve_tsconfig_compiler_options` would test from a given directory, in order; none inside `node_modules`."
+-- "Tries (01's term): the paths that `resolve_tsconfig_compiler_options` would test from a given directory, in order, as if that directory alone existed; none inside
+-- `node_modules`."
 unfoldable pub tries : Settings → Text → Text → List Text
 tries c dir s =
     cond (insideNodeModules dir) []

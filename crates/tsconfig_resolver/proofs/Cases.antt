@@ -26,7 +26,7 @@ use Rattle.path.specs.Path.{onFirst, split, pieceOf, starts, leadsDot, names, h
 use Rattle.strings.specs.Strings.{stringRule, recordPath, leadRule, afterConfigDir, twoStars, patternText, patternRule, covers}
 use Rattle.text.specs.Text.{prefixOf, sameText, someOf, eachOf, findLastFrom}
 use Rattle.tsconfig.specs.Build.{withoutSlashes, inConfigDir, substituted, adjusted, builtValue, built}
-use Rattle.tsconfig.specs.Claims.{allowed, outside, ends, implied, matched, included, excluded, namedFile, claims, isEmptyList, isNone, solutionStyle, claimsOwnership, solution}
+use Rattle.tsconfig.specs.Claims.{allowed, outside, ends, implied, matched, included, excluded, namedFile, claims, isEmptyList, noReferences, solutionStyle, claimsOwnership, solution}
 use Rattle.tsconfig.specs.Config.{merge, mapped}
 use Rattle.tsconfig.specs.Listing.{row, rows, items, keyRows, mapping as mapping-in-Listing, decimal, ifNamed, flagRow, textRow, flags, texts}
 use Rattle.tsconfig.specs.Parsed.{placed, placedValue, ownBase, parse, said}
@@ -168,5 +168,5 @@ table =
     ∷ []
 
 pub cases : map (λ r. answer (r .ask)) table ≡ map (λ r. r .told) table
-unfolding verdict locate listing parsed loadPath ownerOf next finish judge widthOf operands decodeAt decode find isDir configPath only firstOf strings single listed targetsOf keysOf mapping optionOf recordPathOf flagOf textOf slot tally inRange opened fresh follows inOrder tooMany ownRule goodString pathOf keysOf-in-Rules clash givenBefore faultOf fault afterStars afterStar tokenAt tokens eat after afterDirs matchTokens globOf onFirst split pieceOf starts leadsDot names heads components sameList leftOf isSome samePath under joined ending trimEnd allButLast leadOf withoutLast parentOf lastOf lastPiece ifName fileName afterDot extensionOf extension joint pushOf stepBy stepOf walkOf normalizeWith normal insideNodeModules stringRule recordPath leadRule afterConfigDir twoStars patternText patternRule covers prefixOf sameText someOf eachOf findLastFrom withoutSlashes inConfigDir substituted adjusted builtValue built allowed outside ends implied matched included excluded namedFile claims isEmptyList isNone solutionStyle claimsOwnership solution merge mapped row rows items keyRows mapping-in-Listing decimal ifNamed flagRow textRow flags texts placed placedValue ownBase parse said meant entry rest loadBy load referTo referencesOf loadRecord loadFound folders owned ownerAt ownerFrom
+unfolding verdict locate listing parsed loadPath ownerOf next finish judge widthOf operands decodeAt decode find isDir configPath only firstOf strings single listed targetsOf keysOf mapping optionOf recordPathOf flagOf textOf slot tally inRange opened fresh follows inOrder tooMany ownRule goodString pathOf keysOf-in-Rules clash givenBefore faultOf fault afterStars afterStar tokenAt tokens eat after afterDirs matchTokens globOf onFirst split pieceOf starts leadsDot names heads components sameList leftOf isSome samePath under joined ending trimEnd allButLast leadOf withoutLast parentOf lastOf lastPiece ifName fileName afterDot extensionOf extension joint pushOf stepBy stepOf walkOf normalizeWith normal insideNodeModules stringRule recordPath leadRule afterConfigDir twoStars patternText patternRule covers prefixOf sameText someOf eachOf findLastFrom withoutSlashes inConfigDir substituted adjusted builtValue built allowed outside ends implied matched included excluded namedFile claims isEmptyList noReferences solutionStyle claimsOwnership solution merge mapped row rows items keyRows mapping-in-Listing decimal ifNamed flagRow textRow flags texts placed placedValue ownBase parse said meant entry rest loadBy load referTo referencesOf loadRecord loadFound folders owned ownerAt ownerFrom
 cases = refl

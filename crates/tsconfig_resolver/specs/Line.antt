@@ -71,6 +71,6 @@ module _ {Val : Field → Type 0} {B : Type 0} (b : Configs Val B) where
   abbrev pub flatLine : ℕ → Config Val B
   flatLine c = flat (b .own c) (map (b .own) (above c))
 
-  -- "the extends entries of the distinct configs in the line, each once"
+  -- demand 3: "the extends entries of the distinct configs in the line, each once"
   abbrev pub entriesOf : List ℕ → ℕ
   entriesOf l = total (λ i. length (b .entries i)) (distinct l)

@@ -46,7 +46,7 @@ pub record Referred : Type 0 where
 unfoldable pub referTo : List Parsed → ℕ → Option ℕ → Store → Answer Referred
 referTo rs c none s = refused 8 c
 referTo rs c (some r) s = do
-  x ← refer (seen rs) c (some r) s
+  x ← refer (seen rs) c r s
   given (record { site = siteAt rs r (x .config); state = x .state })
 
 -- "Then references, in order"; "References of references are not loaded."
@@ -57,7 +57,7 @@ referencesOf rs c (t ∷ ts) s = do
   more ← referencesOf rs c ts (x .state)
   given (x .site ∷ more)
 
--- the record c as the asked config: its extends, then its references; "Merges counted are those of the asked config, references apart"
+-- the record c as the asked config: its extends, then its references; "Merges counted .. are those of the asked config, references apart"
 unfoldable pub loadRecord : List Parsed → ℕ → Answer Project
 loadRecord rs c = do
   x ← loadAsked (seen rs) c
@@ -77,7 +77,7 @@ pub record Owner : Type 0 where
   pub found : ℕ
   pub solved : ℕ
 
--- the asked path as a folder, and the folders above it
+-- the asked path as a folder, and k folders above it: `/a/b` has three components and two folders above it
 unfoldable pub folders : ℕ → Text → List Text
 folders zero d = d ∷ []
 folders (suc k) d = d ∷ folders k (parentOf d)
@@ -93,7 +93,7 @@ ownerAt rs path (some c) above = do
   p ← loadRecord rs c
   owned path p above
 
--- find_tsconfig_auto: "with a fresh resolver per config on the finder's walk"
+-- find_tsconfig_auto: "with a fresh resolver per asked config and per config on the finder's walk"
 unfoldable pub ownerFrom : List Parsed → Text → List Text → Answer (Option Owner)
 ownerFrom rs path [] = given none
 ownerFrom rs path (d ∷ ds) = ownerAt rs path (find (pushOf d tsconfigJson) (pathsOf rs)) (ownerFrom rs path ds)

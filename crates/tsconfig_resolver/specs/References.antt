@@ -12,8 +12,7 @@ use Rattle.tsconfig_resolver.specs.Load.{Loaded, State, done, unread, wa
 
 module _ {Val : Field → Type 0} {B : Type 0} (b : Configs Val B) where
   -- the reference r of the record c
-  abbrev pub refer : ℕ → Option ℕ → State Val B → Answer (Loaded Val B)
-  refer c none s = refused 8 c
-  refer c (some r) s =
+  abbrev pub refer : ℕ → ℕ → State Val B → Answer (Loaded Val B)
+  refer c r s =
       unless (cond (eqb r c) (some 10) none) c
       (unless (unread (b .entries r)) r (walk (load b (λ i. false)) r (reverse (b .entries r)) (b .own r))) s

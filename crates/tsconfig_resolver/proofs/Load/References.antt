@@ -31,7 +31,7 @@ module _ {Val : Field → Type 0} {B : Type 0} (b : Configs Val B) (inside : (c 
       )) (λ p k. h .short p (m p k))
 
   pub refer-flat :
-      (c p : ℕ) (s : State Val B) (r : Loaded Val B) → p < b .size → Sound b (s .table) → refer b c (some p) s ≡ given r →
+      (c p : ℕ) (s : State Val B) (r : Loaded Val B) → p < b .size → Sound b (s .table) → refer b c p s ≡ given r →
       (r .config ≡ flatLine b p) × Sound b (r .state .table)
   unfolding load
   refer-flat c p s r lt h q =
