@@ -273,7 +273,7 @@ impl Cursor {
 }
 
 // len bytes of s from start on, as far as s reaches.
-fn piece(s: &[u8], start: usize, len: usize) -> &[u8]
+pub fn piece(s: &[u8], start: usize, len: usize) -> &[u8]
     ensures { λ r. ⌜ now r ≡ take len (drop start (now (s .entry))) ⌝ }
 {
     upto(from(s, start), len)

@@ -333,7 +333,7 @@ pub fn parent(s: &[u8]) -> &[u8]
 }
 
 // Whether a slash has to stand between a path and a name joined to it.
-fn wants_slash(s: &[u8]) -> bool
+pub fn wants_slash(s: &[u8]) -> bool
     ensures { λ r. ⌜ joint (now (s .entry)) ≡ slashIf r ⌝ }
 {
     if s.len() == 0 {

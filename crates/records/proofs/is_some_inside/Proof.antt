@@ -1,0 +1,72 @@
+use Prim.Native.Nat.{_-_, _≤_}
+use mathlib.Core.Path.{_≡_}
+use mathlib.Core.List.{[], _++_}
+use Rattle.path.specs.Places.{slashIf}
+use Rattle.text.specs.Text.{prefixOf, someOf}
+use Rattle.records.specs.Items.{pathTable}
+use Rattle.records.proofs.Paths.{rest, some-start, some-here, some-on, some-none}
+use native.Mathlib.Omega.{arith}
+use borrow.Author.Needs.{needs}
+use Rattle.records.proofs.is_some_inside.Statement.{statement}
+use Rattle.records.proofs.is_some_inside.Tie as tie
+
+abbrev Inv-loop : tie.InvT-loop
+Inv-loop text starts lens n p apart i₀ i = (i ≤ n) × (someOf (prefixOf (p ++ (slashIf apart ++ []))) (pathTable text starts lens n) ≡ someOf (prefixOf (p ++ (slashIf apart ++ []))) (rest text starts lens n i))
+
+abbrev μ-loop : tie.MeasureT-loop
+μ-loop text starts lens n p apart i₀ i = n - i
+
+loop-holds : tie.Need-loop-holds Inv-loop μ-loop
+loop-holds c = (omega arith, some-start _ _ _ _ _)
+
+mul-start : tie.Need-mul-start Inv-loop μ-loop
+mul-start c = omega arith
+
+shared-slice-read-start : tie.Need-shared-slice-read-start Inv-loop μ-loop
+shared-slice-read-start c = omega arith
+
+mul-len : tie.Need-mul-len Inv-loop μ-loop
+mul-len c = omega arith
+
+shared-slice-read-len : tie.Need-shared-slice-read-len Inv-loop μ-loop
+shared-slice-read-len c = omega arith
+
+piece-requires : tie.Need-piece-requires Inv-loop μ-loop
+piece-requires c κs = search needs
+
+is-inside-requires : tie.Need-is-inside-requires Inv-loop μ-loop
+is-inside-requires c κs = search needs
+
+returns : tie.Need-returns Inv-loop μ-loop
+returns c = some-here _ _ _ _ _ (c .before .before .before .before .before .loop-test .taken) _ (c .before .before .piece .ensures) (prefixOf (c .before .before .before .before .before .before .before .before .before .before .before .args .p .now ++ (slashIf (c .before .before .before .before .before .before .before .before .before .before .before .args .apart) ++ []))) _ (c .before .is-inside .ensures) (c .before .before .before .before .before .before .loop .inv .1) (c .if1 .taken)
+
+add-i : tie.Need-add-i Inv-loop μ-loop
+add-i c = omega arith
+
+loop-less : tie.Need-loop-less Inv-loop μ-loop
+loop-less c = omega arith
+
+loop-again : tie.Need-loop-again Inv-loop μ-loop
+loop-again c = (omega arith, some-on _ _ _ _ _ (c .before .before .before .before .before .loop-test .taken) _ (c .before .before .piece .ensures) (prefixOf (c .before .before .before .before .before .before .before .before .before .before .before .args .p .now ++ (slashIf (c .before .before .before .before .before .before .before .before .before .before .before .args .apart) ++ []))) _ (c .before .is-inside .ensures) (c .before .before .before .before .before .before .loop .inv .1) (c .if1 .left))
+
+returns-2 : tie.Need-returns-2 Inv-loop μ-loop
+returns-2 c = some-none _ _ _ _ (prefixOf (c .before .before .before .before .before .before .args .p .now ++ (slashIf (c .before .before .before .before .before .before .args .apart) ++ []))) _ (c .loop-test .left) (c .before .loop .inv .1)
+
+pub is-some-inside-spec : {M : Type 1} → statement M
+is-some-inside-spec =
+    tie.close
+    (tie.spec
+    Inv-loop
+    μ-loop
+    loop-holds
+    mul-start
+    shared-slice-read-start
+    mul-len
+    shared-slice-read-len
+    piece-requires
+    is-inside-requires
+    returns
+    add-i
+    loop-less
+    loop-again
+    returns-2)
