@@ -1,15 +1,19 @@
 -- Two strings that meet, and a turn of the loop over a table's rows. Assumes nothing.
-use mathlib.Core.Path.{_≡_, refl, ap}
-use mathlib.Core.List.{List, [], _∷_}
-use mathlib.Core.Bool.{Bool, true, false, _&&_}
+use mathlib.Core.Path.{_≡_, refl, sym, ap, ap₂, _∙_}
+use mathlib.Core.List.{List, [], _∷_, _++_}
+use mathlib.Core.Bool.{Bool, true, false, _&&_, _||_, or-false}
 use Prim.Native.Nat.{ℕ, zero, suc, _-_, _≤_, _<_}
 use native.Mathlib.Omega.{arith}
-use lib.ListN.{length, getD, take, drop}
+use lib.ListN.{length, getD, take, drop, length-append}
 use lib.Dec.{eqb}
-use Rattle.text.specs.Bytes.{Text}
+use borrow.Author.Tests.{eq-eqb, ne-eqb, eqb-true, eqb-false}
+use Rattle.text.specs.Bytes.{Text, slash}
 use Rattle.text.specs.Text.{prefixOf, sameText, someOf}
 use Rattle.strings.specs.Strings.{covers}
-use Rattle.book.specs.State.{texts}
+use Rattle.text.proofs.Scans.{prefix-short, same-length}
+use Rattle.path.proofs.Pieces.{by-test}
+use Rattle.book.specs.Rules.{clash}
+use Rattle.book.specs.State.{texts, meets}
 
 module _ (P : Text → Bool) (text : Text) (starts lens : List ℕ) (i : ℕ) (h : 0 < i) (t : Text) (e : t ≡ take (getD lens (i - 1) 0) (drop (getD starts (i - 1) 0) text)) where
   row : texts text starts lens i ≡ t ∷ texts text starts lens (i - 1)
@@ -34,9 +38,45 @@ row-none P text starts lens zero h = refl
 row-none P text starts lens (suc i) h = absurd (omega (arith, h))
 
 -- of two strings of one length, one covers the other where they are the same
-pub covers-same : (a b : Text) → length a ≡ length b → covers b a ≡ sameText a b
+covers-same : (a b : Text) → length a ≡ length b → covers b a ≡ sameText a b
 unfolding covers prefixOf sameText
 covers-same [] [] e = refl
 covers-same [] (y ∷ b) e = absurd (omega (arith, e))
 covers-same (x ∷ a) [] e = absurd (omega (arith, e))
 covers-same (x ∷ a) (y ∷ b) e = ap (λ (t : Bool). eqb x y && t) (covers-same a b (omega (arith, e)))
+
+or-self : (a : Bool) → (a || a) ≡ a
+or-self true = refl
+or-self false = refl
+
+same-swap : (a b : Text) → sameText a b ≡ sameText b a
+unfolding sameText
+same-swap [] [] = refl
+same-swap [] (y ∷ b) = refl
+same-swap (x ∷ a) [] = refl
+same-swap (x ∷ a) (y ∷ b) = ap₂ _&&_ (by-test (eqb x y) (λ t. t ∙ sym (eq-eqb y x (sym (eqb-true x y t)))) (λ f. f ∙ sym (ne-eqb y x (λ h. eqb-false x y f (sym h))))) (same-swap a b)
+
+covers-short : (p q : Text) → length q < length p → covers p q ≡ false
+unfolding covers
+covers-short p q h =
+    sym (prefix-short (p ++ (slash ∷ [])) (q ++ (slash ∷ [])) (omega (arith, length-append p (slash ∷ []), length-append q (slash ∷ []))))
+
+-- whether two strings meet, by their lengths; r is what the code tests of them
+module _ (paths : Bool) (a b : Text) (r : Bool) where
+  pub meet-same : length a ≡ length b → r ≡ covers b a → r ≡ meets paths a b
+  unfolding meets clash
+  meet-same e k =
+      let z : covers a b ≡ sameText a b = covers-same b a (sym e) ∙ same-swap b a in
+      by-test paths (λ t. rw t (k ∙ covers-same a b e ∙ sym (ap₂ _||_ z (covers-same a b e) ∙ or-self (sameText a b)))) (λ f. rw f (k ∙ covers-same a b e))
+
+  pub meet-short : paths ≡ true → length a < length b → r ≡ covers a b → r ≡ meets paths a b
+  unfolding meets clash
+  meet-short t h k = rw (t, covers-short b a h) (k ∙ sym (or-false (covers a b)))
+
+  pub meet-long : paths ≡ true → length b < length a → r ≡ covers b a → r ≡ meets paths a b
+  unfolding meets clash
+  meet-long t h k = rw (t, covers-short a b h) k
+
+pub meet-not : (paths : Bool) (a b : Text) → paths ≡ false → (length a ≡ length b → ⊥) → false ≡ meets paths a b
+unfolding meets
+meet-not paths a b f h = rw (f, same-length a b h)

@@ -1,4 +1,4 @@
--- The book's verdict: accepted, with its records, or refused, with number and place.
+-- The verdict on a book (01's term for commands and text lent together): accepted, with its records, or refused, with number and place.
 use Prim.Native.Nat.{ℕ, zero, suc}
 use mathlib.Core.List.{List, [], _∷_, reverse, map}
 use mathlib.Core.Bool.{Bool, true, false, _||_, cond}

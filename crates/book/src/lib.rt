@@ -477,18 +477,18 @@ fn push(st: State, c: Cmd, k: usize) -> State
 }
 
 // Whether two strings meet: as paths, one the other or its ancestor; as keys, the same. Of two strings of one length, one covers the other
-// where they are the same.
+// where they are the same; of others only the shorter can cover the longer.
 fn do_meet(paths: bool, a: &[u8], b: &[u8]) -> bool
     ensures { λ r. ⌜ r ≡ meets paths (now (a .entry)) (now (b .entry)) ⌝ }
 {
-    if paths {
-        if covers(a, b) {
-            return true;
-        }
+    if a.len() == b.len() {
         return covers(b, a);
     }
-    if a.len() != b.len() {
+    if !paths {
         return false;
+    }
+    if a.len() < b.len() {
+        return covers(a, b);
     }
     covers(b, a)
 }

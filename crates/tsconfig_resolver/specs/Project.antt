@@ -72,7 +72,7 @@ loadFound rs (some c) = loadRecord rs c
 unfoldable pub loadPath : List Parsed → Text → Answer Project
 loadPath rs p = loadFound rs (locate (pathsOf rs) p)
 
--- found and solution
+-- The owner (01's term) of a file: the config found on the walk, and its solution.
 pub record Owner : Type 0 where
   pub found : ℕ
   pub solved : ℕ
