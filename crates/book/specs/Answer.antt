@@ -8,6 +8,7 @@ pub data Answer (A : Type 0) : Type 0 where
   given : A → Answer A
 
 module _ {A : Type 0} where
+  -- the next step, which a refusal ends
   infixl 20 _>>=_
   abbrev pub _>>=_ : {C : Type 0} → Answer A → (A → Answer C) → Answer C
   _>>=_ (refused n p) k = refused n p

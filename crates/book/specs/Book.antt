@@ -26,6 +26,7 @@ judge text b (ended at) = finish at b
 judge text b (broken at) = refused 2 at
 judge text b (command at c rest) = unless (fault text b c) at (λ n. judge text n rest) (next b c)
 
+-- before the first command
 abbrev pub nothing : Before
 nothing = record { records = []; here = [] }
 

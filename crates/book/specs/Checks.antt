@@ -36,6 +36,7 @@ module _ (part : Text) (base : ℕ) (text : Text) (starts lens : List ℕ) (n : 
     pub named : recordPathOf text (reverse closed) ≡ take len (drop start text)
     pub begun : beginsOf (decode 0 base part) ≡ base ∷ beginsOf (decode 0 to (drop (to - base) part))
 
+  -- what is answered of a record
   abbrev pub CheckedAs : Checked → Type 0
   CheckedAs (Refused k p) =
       (records : List (List Cmd)) → Held text starts lens n records → judge text (record { records = records; here = [] }) (decode 0 base part) ≡ refused k p

@@ -77,6 +77,7 @@ noCommand = 9
 abbrev pub widths : List ℕ
 widths = noCommand ∷ 4 ∷ 0 ∷ 4 ∷ 0 ∷ 4 ∷ 0 ∷ 4 ∷ 4 ∷ 4 ∷ 0 ∷ 4 ∷ 4 ∷ 4 ∷ 0 ∷ 4 ∷ 4 ∷ 4 ∷ 2 ∷ 5 ∷ 0 ∷ []
 
+-- the operand bytes of a command
 unfoldable pub widthOf : ℕ → ℕ
 widthOf op = cond (ltb op 0x15) (getD widths op 0) noCommand
 

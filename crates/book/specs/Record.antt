@@ -15,9 +15,11 @@ pub record Key : Type 0 where
   pub key : Text
   pub targets : List Text
 
+-- the command has the byte
 abbrev pub is : ℕ → Cmd → Bool
 is op c = eqb (c .op) op
 
+-- the command has the byte and the id
 abbrev pub isId : ℕ → ℕ → Cmd → Bool
 isId op id c = is op c && eqb (c .id) id
 
@@ -26,6 +28,7 @@ unfoldable pub only : (Cmd → Bool) → List Cmd → List Cmd
 only ok [] = []
 only ok (c ∷ cs) = cond (ok c) (c ∷ only ok cs) (only ok cs)
 
+-- what f says of the first command, if there is one
 unfoldable pub firstOf : {A : Type 0} → (Cmd → A) → List Cmd → Option A
 firstOf f [] = none
 firstOf f (c ∷ cs) = some (f c)
@@ -48,6 +51,7 @@ module _ (text : Text) where
   targetsOf [] = []
   targetsOf (c ∷ cs) = cond (is target c) (textOf text c ∷ targetsOf cs) []
 
+  -- "0B key S": each key with the targets that follow it
   unfoldable pub keysOf : List Cmd → List Key
   keysOf [] = []
   keysOf (c ∷ cs) = cond (is key c) (record { key = textOf text c; targets = targetsOf cs } ∷ keysOf cs) (keysOf cs)

@@ -114,6 +114,7 @@ faultOf text count last n keys paths c =
     (some 4))
     (some 3)
 
+-- the refusal of a command, given what stands before it
 unfoldable pub fault : Text → Before → Cmd → Option ℕ
 fault text b c =
     faultOf text (λ k. tally k (b .here)) (lastOp (b .here)) (length (b .records)) (keysOf text (b .here)) (map (pathOf text) (b .records)) c

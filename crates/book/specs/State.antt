@@ -49,6 +49,7 @@ pub record Table (text starts lens : List ℕ) (n : ℕ) : Type 0 where
 unfoldable pub meets : Bool → List ℕ → List ℕ → Bool
 meets paths a b = cond paths (clash a b) (sameText a b)
 
+-- a refusal as a number, 0 for none
 abbrev pub number : Option ℕ → ℕ
 number none = 0
 number (some n) = n

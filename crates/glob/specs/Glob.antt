@@ -6,6 +6,7 @@ use mathlib.Core.Bool.{Bool, true, false, not, _&&_, _||_, cond}
 use lib.Dec.{eqb}
 use Rattle.text.specs.Bytes.{Text, slash, star, question}
 
+-- what a pattern is made of
 pub data Token : Type 0 where
   -- a byte that stands for itself, a dot too: "A leading dot is ordinary."
   Byte : ℕ → Token

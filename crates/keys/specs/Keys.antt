@@ -13,6 +13,7 @@ use Rattle.text.specs.declared.Found.the-variants.{At, Nothing}
 abbrev pub prefix : Text → ℕ → Text
 prefix key i = take i key
 
+-- and what stands after it
 abbrev pub suffix : Text → ℕ → Text
 suffix key i = drop (suc i) key
 
@@ -22,6 +23,7 @@ matchesAt key i s =
     leb (length (prefix key i) + length (suffix key i)) (length s)
     && (prefixOf (prefix key i) s && sameText (drop (length s - length (suffix key i)) s) (suffix key i))
 
+-- the piece, by where the star of the key stands
 unfoldable pub partAt : Found → Text → Text → Option Text
 partAt Nothing key s = none
 partAt (At i) key s = cond (matchesAt key i s) (some (between i (length s - length (suffix key i)) s)) none
@@ -30,6 +32,7 @@ partAt (At i) key s = cond (matchesAt key i s) (some (between i (length s - leng
 unfoldable pub keyPart : Text → Text → Option Text
 keyPart key s = partAt (starOf key) key s
 
+-- whether there was a match
 abbrev pub isMatch : Option Text → Bool
 isMatch none = false
 isMatch (some t) = true

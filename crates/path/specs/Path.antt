@@ -14,6 +14,7 @@ use Rattle.path.specs.declared.Piece.the-variants.{Skip, Up, Name}
 
 -- Pieces and components
 
+-- a byte put before the first piece
 unfoldable pub onFirst : ℕ → List Text → List Text
 onFirst x [] = (x ∷ []) ∷ []
 onFirst x (p ∷ ps) = (x ∷ p) ∷ ps
@@ -30,11 +31,13 @@ pieceOf (a ∷ []) = cond (eqb a dot) Skip Name
 pieceOf (a ∷ b ∷ []) = cond (eqb a dot) (cond (eqb b dot) Up Name) Name
 pieceOf (a ∷ b ∷ c ∷ s) = Name
 
+-- the piece is passed over
 abbrev pub isSkip : Piece → Bool
 isSkip Skip = true
 isSkip Up = false
 isSkip Name = false
 
+-- the piece is a name
 abbrev pub isName : Piece → Bool
 isName Skip = false
 isName Up = false
@@ -64,6 +67,7 @@ heads s = cond (starts slash s) (bytes "/" ∷ []) (cond (leadsDot s) (bytes "."
 unfoldable pub components : Text → List Text
 components s = heads s ++ names (split s)
 
+-- the lists have the same texts
 unfoldable pub sameList : List Text → List Text → Bool
 sameList [] [] = true
 sameList [] (b ∷ bs) = false
@@ -76,6 +80,7 @@ leftOf l [] = some l
 leftOf [] (b ∷ bs) = none
 leftOf (a ∷ l) (b ∷ bs) = cond (sameText a b) (leftOf l bs) none
 
+-- there is an answer
 unfoldable pub isSome : {A : Type 0} → Option A → Bool
 isSome none = false
 isSome (some a) = true
@@ -96,6 +101,7 @@ joined [] = []
 joined (p ∷ []) = p
 joined (p ∷ q ∷ ps) = p ++ slash ∷ joined (q ∷ ps)
 
+-- a piece before the pieces that are kept behind it
 unfoldable pub ending : Text → List Text → List Text
 ending p [] = cond (isSkip (pieceOf p)) [] (p ∷ [])
 ending p (q ∷ ps) = p ∷ q ∷ ps
@@ -110,6 +116,7 @@ unfoldable pub trimStart : List Text → List Text
 trimStart [] = []
 trimStart (p ∷ ps) = cond (isSkip (pieceOf p)) (trimStart ps) (p ∷ ps)
 
+-- the pieces without the last
 unfoldable pub allButLast : List Text → List Text
 allButLast [] = []
 allButLast (p ∷ []) = []
@@ -119,6 +126,7 @@ allButLast (p ∷ q ∷ ps) = p ∷ allButLast (q ∷ ps)
 unfoldable pub leadOf : Text → Text
 leadOf s = cond (starts slash s) (bytes "/") (cond (leadsDot s) (bytes ".") [])
 
+-- and what follows it
 abbrev pub restOf : Text → Text
 restOf s = drop (length (leadOf s)) s
 
@@ -152,6 +160,7 @@ stripPrefix p (x ∷ d) =
     cond (sameText (leadOf p) (leadOf (x ∷ d))) (Option·map (λ ps. joined (trimStart (trimEnd ps))) (leftPieces (split (restOf p)) (names (split (restOf (x ∷ d))))))
     none
 
+-- the last of the list, p where there is none
 unfoldable pub lastOf : Text → List Text → Text
 lastOf p [] = p
 lastOf p (q ∷ ps) = lastOf q ps
@@ -174,6 +183,7 @@ afterDot Nothing p = none
 afterDot (At zero) p = none
 afterDot (At (suc i)) p = some (drop (suc (suc i)) p)
 
+-- of a file name
 unfoldable pub extensionOf : Option Text → Option Text
 extensionOf none = none
 extensionOf (some p) = afterDot (findLast dot p) p
@@ -196,6 +206,7 @@ pushOf s name = s ++ (joint s ++ name)
 unfoldable pub joinOf : Text → Text → Text
 joinOf base sub = cond (starts slash sub) sub (pushOf base sub)
 
+-- by what the piece is
 unfoldable pub stepBy : Piece → Text → Text → Text
 stepBy Skip s p = s
 stepBy Up s p = parentOf s
@@ -205,6 +216,7 @@ stepBy Name s p = pushOf s p
 unfoldable pub stepOf : Text → Text → Text
 stepOf s p = stepBy (pieceOf p) s p
 
+-- one piece after the other
 unfoldable pub walkOf : Text → List Text → Text
 walkOf s [] = s
 walkOf s (p ∷ ps) = walkOf (stepOf s p) ps

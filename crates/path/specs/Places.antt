@@ -12,6 +12,7 @@ use Rattle.text.specs.declared.Part.{Part}
 use Rattle.text.specs.declared.Part.the-variants.{Span, Missing}
 use Rattle.path.specs.Path.{split, pieceOf, isSkip, names, leadOf, restOf}
 
+-- the first of the list, nothing where there is none
 abbrev pub firstOf : List Text → Text
 firstOf [] = []
 firstOf (p ∷ ps) = p

@@ -21,9 +21,11 @@ pub record Reply : Type 0 where
   pub second : ℕ
   pub bytes : Text
 
+-- what comes of a question: a refusal, or a reply
 abbrev pub Outcome : Type 0
 Outcome = Answer Reply
 
+-- a reply by its parts
 abbrev pub reply : ℕ → ℕ → Text → Outcome
 reply a b s = given (record { first = a; second = b; bytes = s })
 
@@ -40,19 +42,23 @@ laid (t ∷ ts) = (length t % 256) ∷ (length t / 256) ∷ (t ++ laid ts)
 unfoldable pub asked : Bool → Outcome → Outcome
 asked ok o = cond ok o (refused 7 0)
 
+-- `built`: "record, merges", and "the build's whole output"
 unfoldable pub build : List Parsed → ℕ → Text → Outcome
 build rs room path = asked (askedPath path) (do
   p ← loadPath rs path
   fit room (record { first = p .site .number; second = p .merges; bytes = listing (recordAt rs (p .site .number) .references) (p .site .config) }))
 
+-- the paths of candidates or tries, with their count
 unfoldable pub listed : ℕ → List Text → Outcome
 listed room ts = fit room (record { first = length ts; second = 0; bytes = laid ts })
 
+-- `candidates`: the count and the paths
 unfoldable pub candidatesOf : List Parsed → ℕ → Text → Text → Outcome
 candidatesOf rs room path s = asked (askedPath path && stringRule s) (do
   p ← loadPath rs path
   listed room (candidates (p .site .config) s))
 
+-- `tries`: "the count and the paths"; the directory is an asked path too
 unfoldable pub triesOf : List Parsed → ℕ → Text → Text → Text → Outcome
 triesOf rs room path dir s = asked (askedPath path && (askedPath dir && stringRule s)) (do
   p ← loadPath rs path
@@ -63,6 +69,7 @@ unfoldable pub ownerReply : Option Owner → Outcome
 ownerReply none = reply 65535 65535 []
 ownerReply (some o) = reply (o .found) (o .solved) []
 
+-- `owner`: "found, solution"
 unfoldable pub owner : List Parsed → Text → Outcome
 owner rs path = asked (askedPath path) (do
   o ← ownerOf rs path
@@ -76,21 +83,25 @@ book commands text = do
   rs ← verdict commands text
   given (map (parsed text) rs)
 
+-- the question B: commands, text, the asked path, the room of the lent output
 unfoldable pub tsconfigBuild : Text → Text → Text → ℕ → Outcome
 tsconfigBuild commands text path room = do
   rs ← book commands text
   build rs room path
 
+-- the question O
 unfoldable pub tsconfigOwner : Text → Text → Text → Outcome
 tsconfigOwner commands text path = do
   rs ← book commands text
   owner rs path
 
+-- the question C, with its specifier
 unfoldable pub tsconfigCandidates : Text → Text → Text → Text → ℕ → Outcome
 tsconfigCandidates commands text path specifier room = do
   rs ← book commands text
   candidatesOf rs room path specifier
 
+-- the question T, with its directory and specifier
 unfoldable pub tsconfigTries : Text → Text → Text → Text → Text → ℕ → Outcome
 tsconfigTries commands text path directory specifier room = do
   rs ← book commands text

@@ -14,15 +14,19 @@ abbrev pub bytes : String → Text
 bytes string.[] = []
 bytes (string._∷_ c s) = code c ∷ bytes s
 
+-- `/`
 abbrev pub slash : ℕ
 slash = 0x2F
 
+-- `.`
 abbrev pub dot : ℕ
 dot = 0x2E
 
+-- `*`
 abbrev pub star : ℕ
 star = 0x2A
 
+-- `?`
 abbrev pub question : ℕ
 question = 0x3F
 
@@ -30,6 +34,7 @@ question = 0x3F
 abbrev pub configDir : Text
 configDir = bytes "${configDir}"
 
+-- "inside `node_modules`"
 abbrev pub nodeModules : Text
 nodeModules = bytes "node_modules"
 

@@ -37,6 +37,7 @@ ends c [] = false
 ends c (x ∷ []) = eqb x c
 ends c (x ∷ y ∷ s) = ends c (y ∷ s)
 
+-- a dot, a star or a question mark
 abbrev pub isSpecial : ℕ → Bool
 isSpecial x = eqb x dot || (eqb x star || eqb x question)
 
@@ -71,11 +72,13 @@ claims path s =
     || (not (outside (allowJs (s .config)) (extension path))
     && (included s path (s .config .named include) && not (excluded s path (s .config .named exclude))))
 
+-- the list is there and empty
 unfoldable pub isEmptyList : Option (List Text) → Bool
 isEmptyList none = false
 isEmptyList (some []) = true
 isEmptyList (some (x ∷ xs)) = false
 
+-- there are none
 unfoldable pub noReferences : List Site → Bool
 noReferences [] = true
 noReferences (r ∷ rs) = false

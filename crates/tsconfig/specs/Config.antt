@@ -25,6 +25,7 @@ abbrev pub first : {A R : Type 0} → (A → Option R) → List A → Option R
 first g [] = none
 first g (a ∷ l) = g a orElse first g l
 
+-- the last of a list that begins with a
 abbrev pub last : {A : Type 0} → A → List A → A
 last a [] = a
 last a (b ∷ bs) = last b bs

@@ -13,6 +13,7 @@ use Rattle.tsconfig.specs.Build.{Settings}
 unfoldable pub row : Text → Text → Text
 row name v = name ++ (61 ∷ (v ++ 10 ∷ []))
 
+-- "one line an item"
 unfoldable pub rows : Text → List Text → Text
 rows name [] = []
 rows name (v ∷ vs) = row name v ++ rows name vs
@@ -22,6 +23,7 @@ unfoldable pub items : Text → List Text → Text
 items name [] = name ++ 10 ∷ []
 items name (v ∷ vs) = rows name (v ∷ vs)
 
+-- "each `key` followed by its `target` lines"
 unfoldable pub keyRows : List Key → Text
 keyRows [] = []
 keyRows (k ∷ ks) = row (bytes "key") (k .key) ++ (rows (bytes "target") (k .targets) ++ keyRows ks)
@@ -40,9 +42,11 @@ unfoldable pub ifNamed : {A : Type 0} → (A → Text) → Option A → Text
 ifNamed show none = []
 ifNamed show (some v) = show v
 
+-- "`flag` and id", "as `flag 2=1`"
 unfoldable pub flagRow : ℕ → Bool → Text
 flagRow id v = row (bytes "flag " ++ decimal id) (cond v (bytes "1") (bytes "0"))
 
+-- "`text` and id"
 unfoldable pub textRow : ℕ → Text → Text
 textRow id v = row (bytes "text " ++ decimal id) v
 
@@ -51,6 +55,7 @@ unfoldable pub flags : Settings → ℕ → ℕ → Text
 flags c id zero = []
 flags c id (suc k) = ifNamed (flagRow id) (c .named (flag id)) ++ flags c (suc id) k
 
+-- the like for text options
 unfoldable pub texts : Settings → ℕ → ℕ → Text
 texts c id zero = []
 texts c id (suc k) = ifNamed (textRow id) (c .named (text id)) ++ texts c (suc id) k

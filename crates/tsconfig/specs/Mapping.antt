@@ -25,6 +25,7 @@ unfoldable pub prefixLen : Found → ℕ
 prefixLen Nothing = 0
 prefixLen (At i) = i
 
+-- the key has a longer prefix than the best so far
 unfoldable pub longer : Option Key → Key → Bool
 longer none k = true
 longer (some b) k = ltb (prefixLen (starOf (b .key))) (prefixLen (starOf (k .key)))
@@ -40,6 +41,7 @@ unfoldable pub filledAt : Found → Text → Text → Text
 filledAt Nothing part t = t
 filledAt (At i) part t = take i t ++ (part ++ drop (suc i) t)
 
+-- a target with its first star filled
 unfoldable pub filled : Text → Text → Text
 filled part t = filledAt (starOf t) part t
 
@@ -53,6 +55,7 @@ unfoldable pub fromEqual : Text → List Key → Option Key → List Text
 fromEqual s ks (some k) = k .targets
 fromEqual s ks none = fromBest s (bestKey s none ks)
 
+-- the mapping of the config, if it names `paths`
 unfoldable pub fromPaths : Text → Option (List Key) → List Text
 fromPaths s none = []
 fromPaths s (some ks) = fromEqual s ks (equalKey s ks)
@@ -66,6 +69,7 @@ unfoldable pub fromBaseUrl : Settings → Text → Option Text → List Text
 fromBaseUrl c s none = []
 fromBaseUrl c s (some u) = normalizeWith (c .base) s ∷ []
 
+-- the first list, unless it is empty
 unfoldable pub orIfNone : List Text → List Text → List Text
 orIfNone [] other = other
 orIfNone (x ∷ xs) other = x ∷ xs
@@ -74,6 +78,7 @@ orIfNone (x ∷ xs) other = x ∷ xs
 unfoldable pub candidates : Settings → Text → List Text
 candidates c s = orIfNone (aliases c s) (fromBaseUrl c s (c .named baseUrl))
 
+-- the root dir is longer than the best so far
 unfoldable pub longerText : Option Text → Text → Bool
 longerText none r = true
 longerText (some b) r = ltb (length b) (length r)
@@ -89,6 +94,7 @@ inRoots m none rs = []
 inRoots m (some l) [] = []
 inRoots m (some l) (r ∷ rs) = cond (samePath r m) (inRoots m (some l) rs) (normalizeWith r l ∷ inRoots m (some l) rs)
 
+-- the path itself, then its rest in the other root dirs
 unfoldable pub fromRoot : Text → List Text → Option Text → List Text
 fromRoot p rs none = []
 fromRoot p rs (some m) = p ∷ inRoots m (stripPrefix p m) rs

@@ -23,6 +23,7 @@ Value declarationDir = Text
 Value (flag id) = Bool
 Value (text id) = Text
 
+-- a record: its path, its extends entries and references as given, what it says of each field, its own paths base
 pub record Parsed : Type 0 where
   pub path : Text
   pub extended : List Text

@@ -15,6 +15,7 @@ module _ {Val : Field → Type 0} {B : Type 0} (b : Configs Val B) where
   joins t up [] = t
   joins t up (p ∷ ps) = joins (join t (up p)) up ps
 
+  -- through k extends
   unfoldable pub ownWay : ℕ → ℕ → Tree (Config Val B)
   ownWay zero c = leaf (b .own c)
   ownWay (suc k) c = joins (leaf (b .own c)) (ownWay k) (parents b c)

@@ -12,15 +12,19 @@ use Rattle.tsconfig.specs.Config.{Field, Config}
 use Rattle.tsconfig.specs.Parsed.{Value, Parsed}
 use Rattle.tsconfig_resolver.specs.Line.{Configs, Entry, empty, bare, missing, leads}
 
+-- what stands where there is no record
 abbrev pub blank : Parsed
 blank = record { path = []; extended = []; references = []; says = λ f. none; base = [] }
 
+-- the record with the number
 abbrev pub recordAt : List Parsed → ℕ → Parsed
 recordAt rs c = getD rs c blank
 
+-- its path
 abbrev pub pathAt : List Parsed → ℕ → Text
 pathAt rs c = recordAt rs c .path
 
+-- the paths of the records
 abbrev pub pathsOf : List Parsed → List Text
 pathsOf rs = map (λ r. r .path) rs
 
@@ -28,6 +32,7 @@ pathsOf rs = map (λ r. r .path) rs
 unfoldable pub meant : List Parsed → ℕ → Text → Option ℕ
 meant rs c s = locate (pathsOf rs) (normalizeWith (parentOf (pathAt rs c)) s)
 
+-- "8: no such config" where nothing is found
 abbrev pub reached : Option ℕ → Entry
 reached (some p) = leads p
 reached none = missing
@@ -42,6 +47,7 @@ pub record Supplied (A : Type 0) : Type 0 where
   pub value : A
   pub by : ℕ
 
+-- a value of a field, with its supplier
 abbrev pub SuppliedValue : Field → Type 0
 SuppliedValue f = Supplied (Value f)
 

@@ -30,6 +30,7 @@ abbrev pub lines : (ℕ → List ℕ) → List ℕ → List ℕ
 lines up [] = []
 lines up (p ∷ ps) = p ∷ (up p ++ lines up ps)
 
+-- the number is in the list
 abbrev pub elem : ℕ → List ℕ → Bool
 elem i [] = false
 elem i (x ∷ xs) = eqb i x || elem i xs
@@ -44,6 +45,7 @@ abbrev pub distinct : List ℕ → List ℕ
 distinct [] = []
 distinct (x ∷ l) = cond (elem x l) (distinct l) (x ∷ distinct l)
 
+-- the sum of w over the list
 abbrev pub total : (ℕ → ℕ) → List ℕ → ℕ
 total w [] = 0
 total w (x ∷ l) = w x + total w l

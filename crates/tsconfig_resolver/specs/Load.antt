@@ -31,6 +31,7 @@ unread (missing ∷ es) = unread es
 unread (leads p ∷ es) = unread es
 
 module _ {Val : Field → Type 0} {B : Type 0} where
+  -- the load gives the config and the state
   abbrev pub done : Config Val B → State Val B → Answer (Loaded Val B)
   done x s = given (record { config = x; state = s })
 
@@ -39,12 +40,15 @@ module _ {Val : Field → Type 0} {B : Type 0} where
   recall (some x) k s = done x s
   recall none k s = k s
 
+  -- the config in the table, under its record's number
   abbrev pub put : ℕ → Config Val B → State Val B → State Val B
   put c x s = record { table = λ i. cond (eqb i c) (some x) (s .table i); merges = s .merges }
 
+  -- one merge more
   abbrev pub counted : State Val B → State Val B
   counted s = record { table = s .table; merges = suc (s .merges) }
 
+  -- "tables .. living for one call": empty at its start
   abbrev pub start : State Val B
   start = record { table = λ i. none; merges = 0 }
 
@@ -82,6 +86,7 @@ module _ {Val : Field → Type 0} {B : Type 0} (b : Configs Val B) where
   loadBy zero chain c s = refused 9 c
   loadBy (suc k) chain c s = unless (refusal chain c) c (fresh (loadBy k (add c chain)) c) s
 
+  -- the record c, met under the chain: as many records are left as are not on it
   unfoldable pub load : (ℕ → Bool) → ℕ → State Val B → Answer (Loaded Val B)
   load chain = loadBy (free chain) chain
 

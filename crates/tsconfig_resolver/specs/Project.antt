@@ -31,9 +31,11 @@ pub record Project : Type 0 where
   pub references : List Site
   pub merges : ℕ
 
+-- a merged config built at the path of its record
 abbrev pub siteAt : List Parsed → ℕ → Merged → Site
 siteAt rs c x = record { number = c; path = pathAt rs c; config = built (pathAt rs c) (settings x) }
 
+-- the tables and the count of merges
 abbrev pub Store : Type 0
 Store = State SuppliedValue (Supplied Text)
 
@@ -69,6 +71,7 @@ unfoldable pub loadFound : List Parsed → Option ℕ → Answer Project
 loadFound rs none = refused 8 65535
 loadFound rs (some c) = loadRecord rs c
 
+-- the config that an asked path means
 unfoldable pub loadPath : List Parsed → Text → Answer Project
 loadPath rs p = loadFound rs (locate (pathsOf rs) p)
 
@@ -82,11 +85,13 @@ unfoldable pub folders : ℕ → Text → List Text
 folders zero d = d ∷ []
 folders (suc k) d = d ∷ folders k (parentOf d)
 
+-- the config, if it claims the path, else what is found above
 unfoldable pub owned : Text → Project → Answer (Option Owner) → Answer (Option Owner)
 owned path p above =
     cond (claimsOwnership path (p .site) (p .references))
     (given (some (record { found = p .site .number; solved = solution path (p .site) (p .references) }))) above
 
+-- the config of a folder, if it has one
 unfoldable pub ownerAt : List Parsed → Text → Option ℕ → Answer (Option Owner) → Answer (Option Owner)
 ownerAt rs path none above = above
 ownerAt rs path (some c) above = do
