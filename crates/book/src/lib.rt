@@ -643,8 +643,8 @@ pub enum Judged {
     Yes(usize),
 }
 
-// Each record in turn. The tables have a row for each record that a book may have.
-fn check_records(
+// The verdict on a book, over tables that are slices: a row for each record that a book may have.
+pub fn check_records(
     commands: &[u8],
     text: &[u8],
     begins: &mut [usize],

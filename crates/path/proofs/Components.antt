@@ -4,7 +4,7 @@ use mathlib.Core.List.{List, [], _∷_}
 use mathlib.Core.Bool.{Bool, true, false, _&&_, cond}
 use Prim.Native.Nat.{ℕ, _+_, _-_, _≤_, _<_}
 use native.Mathlib.Omega.{arith}
-use lib.ListN.{length, take, drop, getD, length-take, length-drop, drop-of-length-le}
+use lib.ListN.{length, take, drop, getD, length-take, length-drop, length-append, drop-of-length-le}
 use lib.Seq.{length-take-le, take-all, drop-drop}
 use lib.Dec.{eqb, leb}
 use borrow.Author.Tests.{eq-eqb, ne-eqb, le-leb, lt-leb, leb-true, leb-false, eqb-true}
@@ -438,3 +438,43 @@ module _ (p : Text) (i : ℕ) (d : Text) (j : ℕ) (q : Part) (h : q ≡ nextPar
 
       pub left-on : z ≡ true → leftAt (v + 1) (split (drop (v + 1) p)) (names (split (drop (b + 1) d))) ≡ leftAt i (split (drop i p)) (names (split (drop j d)))
       left-on f = rw (left-turn, f)
+
+-- How many components there are: n so far, and those from `at` on
+pub record Counting (s : Text) (n at : ℕ) : Type 0 where
+  pub all : n + length (names (split (drop at s))) ≡ length (components s)
+  pub few : n ≤ at + 1
+  pub inside : at ≤ length s + 1
+
+heads-lead : (s : Text) → length (heads s) ≡ length (leadOf s)
+unfolding heads leadOf
+heads-lead s = by-test (starts slash s) (λ y. rw y refl) (λ f. by-test (leadsDot s) (λ y. rw (f, y) refl) (λ g. rw (f, g) refl))
+
+lead-small : (s : Text) → length (leadOf s) ≤ 1
+unfolding leadOf
+lead-small s = by-test (starts slash s) (λ y. rw y (omega arith)) (λ f. by-test (leadsDot s) (λ y. rw (f, y) (omega arith)) (λ g. rw (f, g) (omega arith)))
+
+pub count-start : (s : Text) (n : ℕ) → n ≡ length (leadOf s) → Counting s n 0
+unfolding components
+count-start s n e =
+    record {
+      all = omega (arith, e, heads-lead s, length-append (heads s) (names (split s)));
+      few = omega (arith, e, lead-small s);
+      inside = omega arith;
+    }
+
+module _ (s : Text) (n at : ℕ) (p : Counting s n at) (q : Part) (h : q ≡ nextPart at (split (drop at s))) where
+  pub count-end : q ≡ Missing → n ≡ length (components s)
+  count-end m = omega (arith, p .all, ap length (names-missing s at q h m))
+
+  module _ (u v : ℕ) (m : q ≡ Span u v) where
+    pub count-on : Counting s (n + 1) (v + 1)
+    count-on =
+        let x = next-is s at q h u v m in
+        record {
+          all = omega (arith, p .all, ap length (names-next s at q h u v m));
+          few = omega (arith, p .few, x .low, x .less);
+          inside = omega (arith, x .high);
+        }
+
+    pub count-less : length s + 1 - (v + 1) < length s + 1 - at
+    count-less = let x = next-is s at q h u v m in omega (arith, x .low, x .less, x .high)

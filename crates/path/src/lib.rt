@@ -19,7 +19,7 @@ ghost use lib.ListN.{length, take, drop};
 ghost use Rattle.text.specs.Bytes.{slash};
 ghost use Rattle.text.specs.Text.{sameText, partOf};
 ghost use Rattle.text.specs.Emit.{Room, Emits};
-ghost use Rattle.path.specs.Path.{split, pieceOf, isSkip, isName, starts, leadsDot, leadOf, names, joined, trimEnd, parentOf, lastPiece, fileName, extension, samePath, under, stripPrefix, joint, pushOf, joinOf, stepOf, normalizeWith, insideNodeModules};
+ghost use Rattle.path.specs.Path.{split, pieceOf, isSkip, isName, starts, leadsDot, leadOf, names, components, joined, trimEnd, parentOf, lastPiece, fileName, extension, samePath, under, stripPrefix, joint, pushOf, joinOf, stepOf, normalizeWith, insideNodeModules};
 ghost use Rattle.path.specs.Places.{pieceEnd, nextPart, leftAt, leftAfter, slashIf, Holds};
 
 // What a piece between slashes is.
@@ -224,6 +224,21 @@ pub fn extension(s: &[u8]) -> Part
         return Part::Missing;
     }
     Part::Span(a + i + 1, e)
+}
+
+// How many components s has.
+pub fn count_components(s: &[u8]) -> usize
+    ensures { λ r. ⌜ r ≡ length (components (now (s .entry))) ⌝ }
+{
+    let mut n = lead_len(s);
+    let mut at = 0;
+    loop {
+        let Part::Span(_, e) = next_component(s, at) else {
+            return n;
+        };
+        n += 1;
+        at = e + 1;
+    }
 }
 
 // Whether a and b begin with the same of `/`, `.` and neither.

@@ -7,7 +7,8 @@ use lib.ListN.{length}
 use Rattle.text.specs.Bytes.{Text, bytes, star}
 use Rattle.book.proofs.Written.{Line, _says_, commands-of, text-of, times, at, extends, files, baseUrl, paths, key}
 use Rattle.book.specs.Command as command
-use Rattle.questions.specs.Questions.{Outcome, tsconfigBuild, tsconfigOwner, tsconfigCandidates, tsconfigTries, returned, output, laid}
+use Rattle.tsconfig.specs.Laid.{laid}
+use Rattle.questions.specs.Questions.{Outcome, tsconfigBuild, tsconfigOwner, tsconfigCandidates, tsconfigTries, returned, output}
 -- what the answers are computed with
 use Rattle.book.specs.Book.{next, finish, judge, verdict}
 use Rattle.book.specs.Command.{widthOf, operands, decodeAt, decode}
@@ -110,5 +111,5 @@ table =
     ∷ []
 
 pub cases : map (λ r. answer (r .ask)) table ≡ map (λ r. r .told) table
-unfolding laid tsconfigBuild tsconfigOwner tsconfigCandidates tsconfigTries returned output next finish judge verdict widthOf operands decodeAt decode find isDir configPath locate only firstOf strings single listed targetsOf keysOf mapping optionOf recordPathOf flagOf textOf slot tally inRange opened fresh follows inOrder tooMany ownRule goodString pathOf keysOf-in-Rules clash givenBefore faultOf fault afterStars afterStar tokenAt tokens eat after-in-Glob afterDirs matchTokens globOf matchesAt partAt keyPart onFirst split pieceOf starts leadsDot names heads components sameList leftOf isSome samePath under joined ending trimEnd trimStart allButLast leadOf trimmed withoutLast parentOf leftPieces stripPrefix lastOf lastPiece ifName fileName afterDot extensionOf extension joint pushOf stepBy stepOf walkOf normalizeWith normal insideNodeModules fit asked build listed-in-Questions candidatesOf triesOf ownerReply owner book stringRule recordPath leadRule afterConfigDir twoStars patternText patternRule covers askedPath prefixOf sameText someOf eachOf findFrom findLastFrom withoutSlashes inConfigDir substituted adjusted builtValue built allowed outside ends implied matched included excluded namedFile claims isEmptyList noReferences solutionStyle claimsOwnership solution merge mapped row rows items keyRows mapping-in-Listing decimal ifNamed flagRow textRow flags texts listing equalKey prefixLen longer bestKey filledAt filled fromBest fromEqual fromPaths aliases fromBaseUrl orIfNone candidates-in-Mapping longerText rootAbove inRoots fromRoot rootTries tries-in-Mapping placed placedValue ownBase parse said parsed meant entry loadBy load referTo referencesOf loadRecord loadFound loadPath folders owned ownerAt ownerFrom ownerOf
+unfolding tsconfigBuild tsconfigOwner tsconfigCandidates tsconfigTries returned output laid next finish judge verdict widthOf operands decodeAt decode find isDir configPath locate only firstOf strings single listed targetsOf keysOf mapping optionOf recordPathOf flagOf textOf slot tally inRange opened fresh follows inOrder tooMany ownRule goodString pathOf keysOf-in-Rules clash givenBefore faultOf fault afterStars afterStar tokenAt tokens eat after-in-Glob afterDirs matchTokens globOf matchesAt partAt keyPart onFirst split pieceOf starts leadsDot names heads components sameList leftOf isSome samePath under joined ending trimEnd trimStart allButLast leadOf trimmed withoutLast parentOf leftPieces stripPrefix lastOf lastPiece ifName fileName afterDot extensionOf extension joint pushOf stepBy stepOf walkOf normalizeWith normal insideNodeModules fit asked build listed-in-Questions candidatesOf triesOf ownerReply owner book stringRule recordPath leadRule afterConfigDir twoStars patternText patternRule covers askedPath prefixOf sameText someOf eachOf findFrom findLastFrom withoutSlashes inConfigDir substituted adjusted builtValue built allowed outside ends implied matched included excluded namedFile claims isEmptyList noReferences solutionStyle claimsOwnership solution merge mapped row rows items keyRows mapping-in-Listing decimal ifNamed flagRow textRow flags texts listing equalKey prefixLen longer bestKey filledAt filled fromBest fromEqual fromPaths aliases fromBaseUrl orIfNone candidates-in-Mapping longerText rootAbove inRoots fromRoot rootTries tries-in-Mapping placed placedValue ownBase parse said parsed meant entry loadBy load referTo referencesOf loadRecord loadFound loadPath folders owned ownerAt ownerFrom ownerOf
 cases = refl

@@ -21,13 +21,13 @@ use Rattle.tsconfig_resolver.proofs.Inside.{Fits, locate-below}
 use Rattle.questions.specs.Questions.{book}
 use Rattle.questions.specs.Demand3.{flatSite, Inherits}
 
-refused-given : {A : Type 0} {n p : ℕ} {a : A} → refused n p ≡ given a → ⊥
+pub refused-given : {A : Type 0} {n p : ℕ} {a : A} → refused n p ≡ given a → ⊥
 refused-given e = let z : _≡_ {A = ℕ} 0 1 = cc in omega arith
 
-given-same : {A : Type 0} {a c : A} → given a ≡ given c → a ≡ c
+pub given-same : {A : Type 0} {a c : A} → given a ≡ given c → a ≡ c
 given-same e = cc
 
-then-given : {A C : Type 0} (a : Answer A) (k : A → Answer C) {c : C} → (a >>= k) ≡ given c → (x : A) × (a ≡ given x) × (k x ≡ given c)
+pub then-given : {A C : Type 0} (a : Answer A) (k : A → Answer C) {c : C} → (a >>= k) ≡ given c → (x : A) × (a ≡ given x) × (k x ≡ given c)
 then-given (refused n p) k e = absurd (refused-given e)
 then-given (given x) k e = (x, refl, e)
 

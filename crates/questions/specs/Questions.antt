@@ -2,7 +2,7 @@
 use mathlib.Core.List.{List, [], _∷_, _++_, map}
 use mathlib.Core.Bool.{Bool, not, _&&_, cond}
 use mathlib.Core.Option.{Option, some, none}
-use Prim.Native.Nat.{ℕ, _/_, _%_}
+use Prim.Native.Nat.{ℕ}
 use lib.Dec.{ltb}
 use lib.ListN.{length, drop}
 use Rattle.text.specs.Bytes.{Text}
@@ -11,6 +11,7 @@ use Rattle.strings.specs.Strings.{askedPath, stringRule}
 use Rattle.book.specs.Book.{verdict}
 use Rattle.tsconfig.specs.Parsed.{Parsed, parsed}
 use Rattle.tsconfig.specs.Listing.{listing}
+use Rattle.tsconfig.specs.Laid.{laid}
 use Rattle.tsconfig.specs.Mapping.{candidates, tries}
 use Rattle.tsconfig_resolver.specs.Find.{recordAt}
 use Rattle.tsconfig_resolver.specs.Project.{Project, Owner, loadPath, ownerOf}
@@ -32,11 +33,6 @@ reply a b s = given (record { first = a; second = b; bytes = s })
 -- "the answer is longer than the output": 13, "the bytes needed"
 unfoldable pub fit : ℕ → Reply → Outcome
 fit room r = cond (ltb room (length (r .bytes))) (refused 13 (length (r .bytes))) (given r)
-
--- "each a 2-byte length, low byte first, and bytes"
-unfoldable pub laid : List Text → Text
-laid [] = []
-laid (t ∷ ts) = (length t % 256) ∷ (length t / 256) ∷ (t ++ laid ts)
 
 -- the question's own check, before anything is loaded
 unfoldable pub asked : Bool → Outcome → Outcome

@@ -1,1 +1,372 @@
-// The questions: their definitions stand in specs/.
+// The questions, as C functions on numbers and byte slices.
+use book::Judged;
+use book::check_records;
+use listing::put_listing;
+use load::Whole;
+use load::load_record;
+use mapping::put_candidates;
+use owner::Owned;
+use owner::find_owner;
+use records::locate;
+use sites::site_base;
+use sites::site_number;
+use strings::is_asked_path;
+use strings::is_string;
+use text::Found;
+use text::upto;
+ghost use mathlib.Core.Path.{_≡_};
+ghost use mathlib.Core.List.{[], _∷_};
+ghost use Rattle.tsconfig.specs.Mapping.{candidates as candidatesBy};
+ghost use Prim.Native.Nat.{_<_, _≤_};
+ghost use lib.ListN.{length};
+ghost use Rattle.book.specs.Answer.{refused};
+ghost use Rattle.rows.specs.Rows.{Row, siteOf};
+ghost use Rattle.rows.specs.Records.{Records, Paths, recordsOf};
+ghost use Rattle.questions.specs.Questions.{fit, returned, build, owner, candidatesOf, listed, tsconfigBuild, tsconfigOwner, tsconfigCandidates};
+ghost use Rattle.questions.specs.Replies.{numbersOf, Told, buildReply, buildOf, candidatesFrom, loadedThen, Opens};
+
+// What stands for no record.
+const NOBODY: usize = 65535;
+
+// The refusal's number and place, or 0 and 0 with the answer's two numbers and the bytes written.
+#[repr(C)]
+pub struct Numbers {
+    pub number: u64,
+    pub place: u64,
+    pub first: u64,
+    pub second: u64,
+    pub bytes: u64,
+}
+
+fn refuse(number: u32, place: usize) -> Numbers
+    ensures { λ r. ⌜ numbersOf r ≡ returned (refused number place) ⌝ }
+{
+    Numbers {
+        number: number as u64,
+        place: place as u64,
+        first: 0,
+        second: 0,
+        bytes: 0,
+    }
+}
+
+// An answer without output.
+fn give(first: usize, second: usize) -> Numbers
+    ensures { λ r. ⌜ numbersOf r ≡ 0 ∷ 0 ∷ first ∷ second ∷ 0 ∷ [] ⌝ }
+{
+    Numbers {
+        number: 0,
+        place: 0,
+        first: first as u64,
+        second: second as u64,
+        bytes: 0,
+    }
+}
+
+// The listing of a row's config, where it fits the output.
+fn write_listing(
+    commands: &[u8],
+    text: &[u8],
+    begins: &[usize],
+    row: &[u8],
+    base: &[u8],
+    merges: usize,
+    out: &mut [u8],
+) -> Numbers
+    requires { ⌜ Records (now commands) (now text) (now begins) × (Row (recordsOf (now commands) (now text)) (now row) × ((now base ≡ (siteOf (recordsOf (now commands) (now text)) (now row)) .config .base) × (length (now base) ≤ 1600))) ⌝ }
+    ensures { λ r. ⌜ Told (fit (length (now (out .entry))) (buildReply (recordsOf (now (commands .entry)) (now (text .entry))) (siteOf (recordsOf (now (commands .entry)) (now (text .entry))) (now (row .entry))) merges)) r (now (out .entry)) (now (out .exit)) ⌝ }
+{
+    let mut none = [0u8; 0];
+    let need = put_listing(commands, text, begins, row, base, &mut none, 0);
+    if out.len() < need {
+        return refuse(13, need);
+    }
+    let number = site_number(row);
+    let bytes = put_listing(commands, text, begins, row, base, out, 0);
+    Numbers {
+        number: 0,
+        place: 0,
+        first: number as u64,
+        second: merges as u64,
+        bytes: bytes as u64,
+    }
+}
+
+// What is told of a record that is opened: a refusal's number and place, or the merges made and the length of its config's base.
+pub enum Opening {
+    Refused(u32, usize),
+    Ready(usize, usize),
+}
+
+// Loads the record c, and builds its config's base into the start of base.
+fn open_site(
+    commands: &[u8],
+    text: &[u8],
+    begins: &[usize],
+    starts: &[usize],
+    lens: &[usize],
+    n: usize,
+    c: usize,
+    row: &mut [u8],
+    base: &mut [u8],
+) -> Opening
+    requires { ⌜ (Records (now commands) (now text) (now begins) × (Paths (now commands) (now text) (now starts) (now lens) n × (c < n))) × ((length (now row) ≡ 28) × (length (now base) ≡ 1600)) ⌝ }
+    ensures { λ r. ⌜ Opens (recordsOf (now (commands .entry)) (now (text .entry))) c (now (row .exit)) (now (base .exit)) r ⌝ }
+{
+    let mut refs = [255u8; 448];
+    match load_record(commands, text, begins, starts, lens, n, c, row, &mut refs) {
+        Whole::Refused(k, p) => return Opening::Refused(k, p),
+        Whole::Project(merges, _) => {
+            let len = site_base(commands, text, begins, row, base);
+            return Opening::Ready(merges, len);
+        }
+    }
+}
+
+// What a build makes of the record c.
+fn build_record(
+    commands: &[u8],
+    text: &[u8],
+    begins: &[usize],
+    starts: &[usize],
+    lens: &[usize],
+    n: usize,
+    c: usize,
+    out: &mut [u8],
+) -> Numbers
+    requires { ⌜ Records (now commands) (now text) (now begins) × (Paths (now commands) (now text) (now starts) (now lens) n × (c < n)) ⌝ }
+    ensures { λ r. ⌜ Told (loadedThen (recordsOf (now (commands .entry)) (now (text .entry))) c (buildOf (recordsOf (now (commands .entry)) (now (text .entry))) (length (now (out .entry))))) r (now (out .entry)) (now (out .exit)) ⌝ }
+{
+    let mut row = [255u8; 28];
+    let mut base = [0u8; 1600];
+    match open_site(
+        commands,
+        text,
+        begins,
+        starts,
+        lens,
+        n,
+        c,
+        &mut row,
+        &mut base,
+    ) {
+        Opening::Refused(k, p) => return refuse(k, p),
+        Opening::Ready(merges, len) => {
+            let built = upto(&base, len);
+            return write_listing(commands, text, begins, &row, built, merges, out);
+        }
+    }
+}
+
+// The question B over a checked book.
+fn build(
+    commands: &[u8],
+    text: &[u8],
+    begins: &[usize],
+    starts: &[usize],
+    lens: &[usize],
+    n: usize,
+    path: &[u8],
+    out: &mut [u8],
+) -> Numbers
+    requires { ⌜ Records (now commands) (now text) (now begins) × Paths (now commands) (now text) (now starts) (now lens) n ⌝ }
+    ensures { λ r. ⌜ Told (build (recordsOf (now (commands .entry)) (now (text .entry))) (length (now (out .entry))) (now (path .entry))) r (now (out .entry)) (now (out .exit)) ⌝ }
+{
+    if !is_asked_path(path) {
+        return refuse(7, 0);
+    }
+    match locate(text, starts, lens, n, path) {
+        Found::Nothing => return refuse(8, 65535),
+        Found::At(c) => return build_record(commands, text, begins, starts, lens, n, c, out),
+    }
+}
+
+// B: the config that a path means, merged with what it extends and built, as lines; its record and the merges made.
+#[no_mangle]
+pub extern "C" fn tsconfig_build(
+    commands: &[u8],
+    text: &[u8],
+    path: &[u8],
+    out: &mut [u8],
+) -> Numbers
+    ensures { λ r. ⌜ Told (tsconfigBuild (now (commands .entry)) (now (text .entry)) (now (path .entry)) (length (now (out .entry)))) r (now (out .entry)) (now (out .exit)) ⌝ }
+{
+    let mut begins = [0usize; 64];
+    let mut starts = [0usize; 64];
+    let mut lens = [0usize; 64];
+    match check_records(commands, text, &mut begins, &mut starts, &mut lens) {
+        Judged::No(k, p) => return refuse(k, p),
+        Judged::Yes(n) => return build(commands, text, &begins, &starts, &lens, n, path, out),
+    }
+}
+
+// The candidates of a row's config, where they fit the output.
+fn write_candidates(
+    commands: &[u8],
+    text: &[u8],
+    begins: &[usize],
+    row: &[u8],
+    base: &[u8],
+    specifier: &[u8],
+    out: &mut [u8],
+) -> Numbers
+    requires { ⌜ Records (now commands) (now text) (now begins) × (Row (recordsOf (now commands) (now text)) (now row) × ((now base ≡ (siteOf (recordsOf (now commands) (now text)) (now row)) .config .base) × ((length (now base) ≤ 1600) × (length (now specifier) ≤ 512)))) ⌝ }
+    ensures { λ r. ⌜ Told (listed (length (now (out .entry))) (candidatesBy ((siteOf (recordsOf (now (commands .entry)) (now (text .entry))) (now (row .entry))) .config) (now (specifier .entry)))) r (now (out .entry)) (now (out .exit)) ⌝ }
+{
+    let mut none = [0u8; 0];
+    let counted = put_candidates(commands, text, begins, row, base, specifier, &mut none, 0);
+    let need = counted.at;
+    if out.len() < need {
+        return refuse(13, need);
+    }
+    let wrote = put_candidates(commands, text, begins, row, base, specifier, out, 0);
+    let count = wrote.count;
+    let bytes = wrote.at;
+    Numbers {
+        number: 0,
+        place: 0,
+        first: count as u64,
+        second: 0,
+        bytes: bytes as u64,
+    }
+}
+
+// What candidates makes of the record c.
+fn candidates_record(
+    commands: &[u8],
+    text: &[u8],
+    begins: &[usize],
+    starts: &[usize],
+    lens: &[usize],
+    n: usize,
+    c: usize,
+    specifier: &[u8],
+    out: &mut [u8],
+) -> Numbers
+    requires { ⌜ (Records (now commands) (now text) (now begins) × (Paths (now commands) (now text) (now starts) (now lens) n × (c < n))) × (length (now specifier) ≤ 512) ⌝ }
+    ensures { λ r. ⌜ Told (loadedThen (recordsOf (now (commands .entry)) (now (text .entry))) c (candidatesFrom (now (specifier .entry)) (length (now (out .entry))))) r (now (out .entry)) (now (out .exit)) ⌝ }
+{
+    let mut row = [255u8; 28];
+    let mut base = [0u8; 1600];
+    match open_site(
+        commands,
+        text,
+        begins,
+        starts,
+        lens,
+        n,
+        c,
+        &mut row,
+        &mut base,
+    ) {
+        Opening::Refused(k, p) => return refuse(k, p),
+        Opening::Ready(_, len) => {
+            let built = upto(&base, len);
+            return write_candidates(commands, text, begins, &row, built, specifier, out);
+        }
+    }
+}
+
+// The question C over a checked book.
+fn candidates(
+    commands: &[u8],
+    text: &[u8],
+    begins: &[usize],
+    starts: &[usize],
+    lens: &[usize],
+    n: usize,
+    path: &[u8],
+    specifier: &[u8],
+    out: &mut [u8],
+) -> Numbers
+    requires { ⌜ Records (now commands) (now text) (now begins) × Paths (now commands) (now text) (now starts) (now lens) n ⌝ }
+    ensures { λ r. ⌜ Told (candidatesOf (recordsOf (now (commands .entry)) (now (text .entry))) (length (now (out .entry))) (now (path .entry)) (now (specifier .entry))) r (now (out .entry)) (now (out .exit)) ⌝ }
+{
+    if !is_asked_path(path) {
+        return refuse(7, 0);
+    }
+    if !is_string(specifier) {
+        return refuse(7, 0);
+    }
+    match locate(text, starts, lens, n, path) {
+        Found::Nothing => return refuse(8, 65535),
+        Found::At(c) => return candidates_record(
+            commands,
+            text,
+            begins,
+            starts,
+            lens,
+            n,
+            c,
+            specifier,
+            out,
+        ),
+    }
+}
+
+// C: the paths that a specifier is mapped to by the config that a path means, each a length in two bytes and its bytes; how many there are.
+#[no_mangle]
+pub extern "C" fn tsconfig_candidates(
+    commands: &[u8],
+    text: &[u8],
+    path: &[u8],
+    specifier: &[u8],
+    out: &mut [u8],
+) -> Numbers
+    ensures { λ r. ⌜ Told (tsconfigCandidates (now (commands .entry)) (now (text .entry)) (now (path .entry)) (now (specifier .entry)) (length (now (out .entry)))) r (now (out .entry)) (now (out .exit)) ⌝ }
+{
+    let mut begins = [0usize; 64];
+    let mut starts = [0usize; 64];
+    let mut lens = [0usize; 64];
+    match check_records(commands, text, &mut begins, &mut starts, &mut lens) {
+        Judged::No(k, p) => return refuse(k, p),
+        Judged::Yes(n) => return candidates(
+            commands,
+            text,
+            &begins,
+            &starts,
+            &lens,
+            n,
+            path,
+            specifier,
+            out,
+        ),
+    }
+}
+
+// The question O over a checked book.
+fn owner(
+    commands: &[u8],
+    text: &[u8],
+    begins: &[usize],
+    starts: &[usize],
+    lens: &[usize],
+    n: usize,
+    path: &[u8],
+) -> Numbers
+    requires { ⌜ Records (now commands) (now text) (now begins) × Paths (now commands) (now text) (now starts) (now lens) n ⌝ }
+    ensures { λ r. ⌜ numbersOf r ≡ returned (owner (recordsOf (now (commands .entry)) (now (text .entry))) (now (path .entry))) ⌝ }
+{
+    if !is_asked_path(path) {
+        return refuse(7, 0);
+    }
+    match find_owner(commands, text, begins, starts, lens, n, path) {
+        Owned::Refused(k, p) => return refuse(k, p),
+        Owned::Nobody => return give(NOBODY, NOBODY),
+        Owned::By(found, solved) => return give(found, solved),
+    }
+}
+
+// O: the config that owns a file, and its solution: 65,535 twice where there is none.
+#[no_mangle]
+pub extern "C" fn tsconfig_owner(commands: &[u8], text: &[u8], path: &[u8]) -> Numbers
+    ensures { λ r. ⌜ numbersOf r ≡ returned (tsconfigOwner (now (commands .entry)) (now (text .entry)) (now (path .entry))) ⌝ }
+{
+    let mut begins = [0usize; 64];
+    let mut starts = [0usize; 64];
+    let mut lens = [0usize; 64];
+    match check_records(commands, text, &mut begins, &mut starts, &mut lens) {
+        Judged::No(k, p) => return refuse(k, p),
+        Judged::Yes(n) => return owner(commands, text, &begins, &starts, &lens, n, path),
+    }
+}

@@ -221,6 +221,10 @@ module _ (text : Text) (starts lens : List ℕ) (n : ℕ) where
 -- The asked path
 
 module _ (table : List Text) (p : Text) where
+  pub config-in : (apart : Bool) → joint p ≡ slashIf apart → (r : Found) → foundNumber r ≡ find (p ++ (slashIf apart ++ tsconfigJson)) table → foundNumber r ≡ find (pushOf p tsconfigJson) table
+  unfolding pushOf
+  config-in apart j r h = h ∙ sym (rw j refl)
+
   pub whole-path : (r : Found) → foundNumber r ≡ find (p ++ ([] ++ [])) table → foundNumber r ≡ find p table
   whole-path r e = e ∙ ap (λ (w : Text). find w table) (append-nil p)
 
@@ -243,9 +247,8 @@ module _ (table : List Text) (p : Text) where
       other = let g : find p table ≡ none = sym e ∙ ap foundNumber f in ap (λ (o : Option ℕ). find (cond (isSome o) p (cond (isDir table p) (pushOf p tsconfigJson) (p ++ json))) table) g
 
       module _ (b : Bool) (i : b ≡ isDir table p) where
-        pub locate-dir : b ≡ true → (apart : Bool) → joint p ≡ slashIf apart → (r : Found) → foundNumber r ≡ find (p ++ (slashIf apart ++ tsconfigJson)) table → foundNumber r ≡ locate table p
-        unfolding pushOf
-        locate-dir y apart j r h = h ∙ sym (other ∙ (rw (← i, y, j) refl))
+        pub locate-dir : b ≡ true → (r : Found) → foundNumber r ≡ find (pushOf p tsconfigJson) table → foundNumber r ≡ locate table p
+        locate-dir y r h = h ∙ sym (other ∙ (rw (← i, y) refl))
 
         pub locate-json : b ≡ false → (r : Found) → foundNumber r ≡ find (p ++ json) table → foundNumber r ≡ locate table p
         locate-json y r h = h ∙ sym (other ∙ (rw (← i, y) refl))

@@ -17,7 +17,8 @@ ghost use mathlib.Core.List.{[], _++_};
 ghost use Prim.Native.Nat.{_≤_};
 ghost use lib.ListN.{length, drop};
 ghost use Rattle.text.specs.Text.{prefixOf, sameText, someOf};
-ghost use Rattle.path.specs.Path.{joint};
+ghost use Rattle.text.specs.Bytes.{tsconfigJson};
+ghost use Rattle.path.specs.Path.{joint, pushOf};
 ghost use Rattle.path.specs.Places.{slashIf};
 ghost use Rattle.book.specs.Command.{decode};
 ghost use Rattle.book.specs.Rules.{textOf};
@@ -221,6 +222,15 @@ pub fn is_dir(text: &[u8], starts: &[usize], lens: &[usize], n: usize, p: &[u8])
     is_some_inside(text, starts, lens, n, p, apart)
 }
 
+// The record, of n, that is the `tsconfig.json` of the folder d.
+pub fn config_in(text: &[u8], starts: &[usize], lens: &[usize], n: usize, d: &[u8]) -> Found
+    requires { ⌜ (n ≤ length (now starts)) × (n ≤ length (now lens)) ⌝ }
+    ensures { λ r. ⌜ foundNumber r ≡ find (pushOf (now (d .entry)) tsconfigJson) (pathTable (now (text .entry)) (now (starts .entry)) (now (lens .entry)) n) ⌝ }
+{
+    let apart = wants_slash(d);
+    find_joined(text, starts, lens, n, d, apart, b"tsconfig.json")
+}
+
 // The record, of n, that an asked path means: itself, a directory's `tsconfig.json`, or the path with `.json`.
 pub fn locate(text: &[u8], starts: &[usize], lens: &[usize], n: usize, p: &[u8]) -> Found
     requires { ⌜ (n ≤ length (now starts)) × (n ≤ length (now lens)) ⌝ }
@@ -232,8 +242,7 @@ pub fn locate(text: &[u8], starts: &[usize], lens: &[usize], n: usize, p: &[u8])
         Found::Nothing => {}
     }
     if is_dir(text, starts, lens, n, p) {
-        let apart = wants_slash(p);
-        return find_joined(text, starts, lens, n, p, apart, b"tsconfig.json");
+        return config_in(text, starts, lens, n, p);
     }
     find_joined(text, starts, lens, n, p, false, b".json")
 }

@@ -2,3 +2,4 @@
 pub mod Flat
 pub mod Map
 pub mod Cases
+pub mod Style

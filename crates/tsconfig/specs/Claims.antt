@@ -84,7 +84,7 @@ noReferences [] = true
 noReferences (r ∷ rs) = false
 
 -- "have `references` and explicit empty `files` / `include`". As the Rust has it; it changes no answer, since such a config claims nothing by
--- itself (questions/proofs/Laws, solution-style-idle).
+-- itself (proofs/Style, solution-style-idle).
 unfoldable pub solutionStyle : Site → List Site → Bool
 solutionStyle s refs = not (noReferences refs) && (isEmptyList (s .config .named files) && isEmptyList (s .config .named include))
 

@@ -5,3 +5,4 @@ pub mod Build
 pub mod Claims
 pub mod Mapping
 pub mod Listing
+pub mod Laid

@@ -1,0 +1,244 @@
+-- Demand 3 of what the entries return. Assumes nothing.
+use mathlib.Core.Path.{_≡_, refl, sym, ap, subst, _∙_}
+use mathlib.Core.List.{List, [], _∷_, _++_}
+use mathlib.Core.Bool.{Bool, true, false, _&&_, cond}
+use mathlib.Core.Option.{Option, some, none}
+use Prim.Native.Nat.{ℕ, zero, suc, _-_, _<_}
+use native.Mathlib.Omega.{arith}
+use lib.ListN.{length, drop, length-map}
+use lib.Dec.{ltb}
+use Rattle.text.specs.Bytes.{Text, tsconfigJson}
+use Rattle.path.specs.Path.{pushOf, insideNodeModules, components}
+use Rattle.path.proofs.Pieces.{by-test}
+use Rattle.book.specs.Answer.{Answer, refused, given, _>>=_}
+use Rattle.book.specs.Book.{verdict}
+use Rattle.book.specs.Find.{find, locate}
+use Rattle.book.specs.Sound.{All, nil, cons}
+use Rattle.strings.specs.Strings.{askedPath, stringRule}
+use Rattle.tsconfig.specs.Parsed.{Parsed}
+use Rattle.tsconfig.specs.Claims.{claimsOwnership, solution}
+use Rattle.tsconfig.specs.Mapping.{candidates}
+use Rattle.tsconfig_resolver.specs.Find.{recordAt, pathsOf, reached, seen}
+use Rattle.tsconfig_resolver.specs.Project.{Project, Owner, loadRecord, loadFound, loadPath, ownerOf, ownerFrom, ownerAt, owned, folders, siteAt}
+use Rattle.tsconfig_resolver.specs.Line.{line, entriesOf}
+use Rattle.tsconfig_resolver.proofs.Inside.{Fits, find-below, locate-below}
+use Rattle.rows.specs.Records.{recordsOf}
+use Rattle.tsconfig.specs.Laid.{laid}
+use Rattle.questions.specs.Questions.{Outcome, Reply, fit, asked, listed, book, build, candidatesOf, owner, ownerReply, tsconfigBuild, tsconfigOwner, tsconfigCandidates, returned, output}
+use Rattle.questions.specs.Replies.{numbersOf, Told, buildOf, buildReply, candidatesFrom}
+use Rattle.questions.specs.Numbered.{Numbered}
+use Rattle.questions.specs.Demand3.{flatSite, Inherits}
+use Rattle.questions.specs.Promises.{Loads, flatListing, flatCandidates, BuildInherits, CandidatesInherit, OwnerInherits, Passed}
+use Rattle.questions.specs.declared.Numbers.{Numbers}
+use Rattle.questions.proofs.Demand3.{refused-given, given-same, then-given, inherits, inherits-asked}
+use Rattle.questions.proofs.Numbered.{build-numbered, owner-numbered, candidates-numbered}
+
+none-some : {A : Type 0} (o : A) → none ≡ some o → ⊥
+none-some o x = let z : _≡_ {A = ℕ} 0 1 = cc in omega (arith, z)
+
+either : {X : Type 1} (b : Bool) → (b ≡ true → X) → (b ≡ false → X) → X
+either true t f = t refl
+either false t f = f refl
+
+-- What is not refused
+
+-- a number of 0 stands for an answer
+answered : (o : Outcome) (r : Numbers) → Numbered o → numbersOf r ≡ returned o → r .number ≡ 0 → (a : Reply) × (o ≡ given a)
+unfolding returned
+answered (refused k p) r h e z = absurd (omega (arith, h .0, head e, z))
+  where
+    head : numbersOf r ≡ returned (refused k p) → r .number ≡ k
+    head x = cc
+answered (given a) r h e z = (a, refl)
+
+record Same (a : Reply) (r : Numbers) : Type 0 where
+  first : r .first ≡ a .first
+  second : r .second ≡ a .second
+  bytes : r .bytes ≡ length (a .bytes)
+
+same : (o : Outcome) (a : Reply) (r : Numbers) → o ≡ given a → numbersOf r ≡ returned o → Same a r
+unfolding returned
+same o a r e n =
+    let x : numbersOf r ≡ 0 ∷ 0 ∷ a .first ∷ a .second ∷ length (a .bytes) ∷ [] = n ∙ ap returned e in
+    record { first = cc; second = cc; bytes = cc }
+
+left : (o : Outcome) (a : Reply) (old new : Text) → o ≡ given a → new ≡ output o old → new ≡ a .bytes ++ drop (length (a .bytes)) old
+unfolding output
+left o a old new e u = u ∙ ap (λ (x : Outcome). output x old) e
+
+asked-given : (ok : Bool) (o : Outcome) (a : Reply) → asked ok o ≡ given a → o ≡ given a
+unfolding asked
+asked-given true o a e = e
+asked-given false o a e = absurd (refused-given e)
+
+fit-given : (room : ℕ) (x a : Reply) → fit room x ≡ given a → a ≡ x
+unfolding fit
+fit-given room x a e = by-test (ltb room (length (x .bytes))) (λ y. absurd (refused-given (rw y at e))) (λ f. sym (given-same (rw f at e)))
+
+book-records : (commands text : Text) (rs : List Parsed) → book commands text ≡ given rs → rs ≡ recordsOf commands text
+unfolding book recordsOf
+book-records commands text rs e =
+    let (cs, v, g) = then-given (verdict commands text) _ e in
+    rw v (sym (given-same g))
+
+-- the reply of candidates
+abbrev listedReply : List Text → Reply
+listedReply ts = record { first = length ts; second = 0; bytes = laid ts }
+
+module _ (commands text : Text) where
+  abbrev rs : List Parsed
+  rs = recordsOf commands text
+
+  abbrev loads : (c : ℕ) (p : Project) → loadRecord rs c ≡ given p → Inherits rs c p → Loads rs c
+  loads c p e i = record { project = p; loaded = e; inherits = i }
+
+  -- what is left of a question once it is not refused: the config that is meant, its load, and what was made of it
+  reached-by : (path : Text) (ok : Bool) (after : Project → Outcome) (a : Reply) → asked ok (loadPath rs path >>= after) ≡ given a →
+      (p : Project) × (loadPath rs path ≡ given p) × (after p ≡ given a)
+  reached-by path ok after a e = then-given (loadPath rs path) after (asked-given ok (loadPath rs path >>= after) a e)
+
+  from-path : (path : Text) (p : Project) → loadPath rs path ≡ given p → (c : ℕ) × (locate (pathsOf rs) path ≡ some c) × (loadRecord rs c ≡ given p) × Inherits rs c p
+  unfolding loadPath loadFound
+  from-path path p e = go (locate (pathsOf rs) path) refl e
+    where
+      go : (o : Option ℕ) → locate (pathsOf rs) path ≡ o → loadFound rs o ≡ given p → (c : ℕ) × (locate (pathsOf rs) path ≡ some c) × (loadRecord rs c ≡ given p) × Inherits rs c p
+      go none h x = absurd (refused-given x)
+      go (some c) h x = (c, h, x, inherits rs c p (subst (λ o. Fits (length rs) (reached o)) h (locate-below rs path)) x)
+
+  -- What tsconfig_build promises
+
+  pub build-inherits :
+      (path : Text) (r : Numbers) (old new : Text) → Told (tsconfigBuild commands text path (length old)) r old new → r .number ≡ 0 → BuildInherits rs path r old new
+  unfolding tsconfigBuild build
+  build-inherits path r old new t z =
+      let o = tsconfigBuild commands text path (length old) in
+      let (a, e) = answered o r (build-numbered commands text path (length old)) (t .numbers) z in
+      let (qs, b, e₁) = then-given (book commands text) (λ x. build x (length old) path) e in
+      let q : qs ≡ rs = book-records commands text qs b in
+      let e₂ : build rs (length old) path ≡ given a = subst (λ (x : List Parsed). build x (length old) path ≡ given a) q e₁ in
+      let (p, e₃, e₄) = reached-by path (askedPath path) (buildOf rs (length old)) a e₂ in
+      let (c, means, loaded, i) = from-path path p e₃ in
+      let f : a ≡ buildReply rs (p .site) (p .merges) = fit-given (length old) (buildReply rs (p .site) (p .merges)) a e₄ in
+      let g : a ≡ buildReply rs (flatSite rs c) (p .merges) = f ∙ ap (λ s. buildReply rs s (p .merges)) (i .flattened) in
+      let s = same o a r e (t .numbers) in
+      let n : r .first ≡ c = s .first ∙ ap (λ (x : Reply). x .first) g in
+      let w : r .bytes ≡ length (flatListing rs c) = s .bytes ∙ ap (λ (x : Reply). length (x .bytes)) g in
+      record {
+        means = means ∙ ap some (sym n);
+        loads = subst (Loads rs) (sym n) (loads c p loaded i);
+        merges = s .second ∙ ap (λ (x : Reply). x .second) g ∙ i .merged ∙ ap (λ (x : ℕ). entriesOf (seen rs) (line (seen rs) x)) (sym n);
+        written = w ∙ ap (λ (x : ℕ). length (flatListing rs x)) (sym n);
+        output =
+            left o a old new e (t .bytes)
+            ∙ ap (λ (x : Reply). x .bytes ++ drop (length (x .bytes)) old) g
+            ∙ ap (λ (k : ℕ). flatListing rs c ++ drop k old) (sym w)
+            ∙ ap (λ (x : ℕ). flatListing rs x ++ drop (r .bytes) old) (sym n);
+      }
+
+  -- What tsconfig_candidates promises
+
+  pub candidates-inherit :
+      (path s : Text) (r : Numbers) (old new : Text) → Told (tsconfigCandidates commands text path s (length old)) r old new → r .number ≡ 0 → CandidatesInherit rs path s r old new
+  unfolding tsconfigCandidates candidatesOf listed
+  candidates-inherit path s r old new t z =
+      let o = tsconfigCandidates commands text path s (length old) in
+      let (a, e) = answered o r (candidates-numbered commands text path s (length old)) (t .numbers) z in
+      let (qs, b, e₁) = then-given (book commands text) (λ x. candidatesOf x (length old) path s) e in
+      let q : qs ≡ rs = book-records commands text qs b in
+      let e₂ : candidatesOf rs (length old) path s ≡ given a = subst (λ (x : List Parsed). candidatesOf x (length old) path s ≡ given a) q e₁ in
+      let (p, e₃, e₄) = reached-by path (askedPath path && stringRule s) (candidatesFrom s (length old)) a e₂ in
+      let (c, means, loaded, i) = from-path path p e₃ in
+      let f : a ≡ listedReply (candidates (p .site .config) s) = fit-given (length old) (listedReply (candidates (p .site .config) s)) a e₄ in
+      let g : a ≡ listedReply (flatCandidates rs c s) = f ∙ ap listedReply (i .mapped-to s) in
+      let m = same o a r e (t .numbers) in
+      let w : r .bytes ≡ length (laid (flatCandidates rs c s)) = m .bytes ∙ ap (λ (x : Reply). length (x .bytes)) g in
+      record {
+        config = c;
+        means = means;
+        loads = loads c p loaded i;
+        count = m .first ∙ ap (λ (x : Reply). x .first) g;
+        written = w;
+        output =
+            left o a old new e (t .bytes)
+            ∙ ap (λ (x : Reply). x .bytes ++ drop (length (x .bytes)) old) g
+            ∙ ap (λ (k : ℕ). laid (flatCandidates rs c s) ++ drop k old) (sym w);
+      }
+
+  -- What tsconfig_owner promises
+
+  module _ (path : Text) where
+    -- the config of a folder
+    one : (c : ℕ) → c < length rs → (o : Owner) (above : Answer (Option Owner)) → ownerAt rs path (some c) above ≡ given (some o) →
+        (above ≡ given (some o) → OwnerInherits rs path (o .found) (o .solved)) → OwnerInherits rs path (o .found) (o .solved)
+    unfolding ownerAt owned
+    one c lt o above e more =
+        let (p, l, e₁) = then-given (loadRecord rs c) (λ q. owned path q above) e in
+        let i = inherits rs c p lt l in
+        either (claimsOwnership path (p .site) (p .references))
+        (λ y.
+        let g : some (record { found = p .site .number; solved = solution path (p .site) (p .references) }) ≡ some o = given-same (rw y at e₁) in
+        let k : record { found = p .site .number; solved = solution path (p .site) (p .references) } ≡ o = cc in
+        let n : o .found ≡ c = sym (ap (λ (x : Owner). x .found) k) ∙ ap (λ t. t .number) (i .flattened) in
+        owns c p l i o n (sym (i .claimed-with path) ∙ y) (sym (ap (λ (x : Owner). x .solved) k) ∙ ap (λ t. solution path t (p .references)) (i .flattened)))
+        (λ f. more (rw f at e₁))
+      where
+        owns : (c : ℕ) (p : Project) → loadRecord rs c ≡ given p → Inherits rs c p → (o : Owner) → o .found ≡ c →
+            claimsOwnership path (flatSite rs c) (p .references) ≡ true → o .solved ≡ solution path (flatSite rs c) (p .references) →
+            OwnerInherits rs path (o .found) (o .solved)
+        owns c p l i o n y w = subst (λ (x : ℕ). OwnerInherits rs path x (o .solved)) (sym n) (record { loads = loads c p l i; claims = y; solution-is = w })
+
+    find-fits : (d : Text) → Fits (length rs) (reached (find (pushOf d tsconfigJson) (pathsOf rs)))
+    find-fits d = subst (λ (n : ℕ). Fits n (reached (find (pushOf d tsconfigJson) (pathsOf rs)))) (length-map rs (λ r. r .path)) (find-below (pushOf d tsconfigJson) (pathsOf rs))
+
+    folder : (x : Option ℕ) → Fits (length rs) (reached x) → (o : Owner) (above : Answer (Option Owner)) →
+        (above ≡ given (some o) → OwnerInherits rs path (o .found) (o .solved)) → ownerAt rs path x above ≡ given (some o) → OwnerInherits rs path (o .found) (o .solved)
+    unfolding ownerAt
+    folder none h o above more y = more y
+    folder (some c) h o above more y = one c h o above y more
+
+    walks : (ds : List Text) (o : Owner) → ownerFrom rs path ds ≡ given (some o) → OwnerInherits rs path (o .found) (o .solved)
+    unfolding ownerFrom
+    walks [] o e = absurd (none-some o (given-same e))
+    walks (d ∷ ds) o e = folder (find (pushOf d tsconfigJson) (pathsOf rs)) (find-fits d) o (ownerFrom rs path ds) (walks ds o) e
+
+    found : (r : Numbers) (a : Reply) (w : Option Owner) → ownerOf rs path ≡ given w → ownerReply w ≡ given a → Same a r → (r .first ≡ 65535 → ⊥) → OwnerInherits rs path (r .first) (r .second)
+    unfolding ownerOf ownerReply
+    found r a none e g s h = absurd (h (s .first ∙ sym (ap (λ (x : Reply). x .first) (given-same g))))
+    found r a (some o) e g s h =
+        either (insideNodeModules path)
+        (λ y. absurd (none-some o (given-same (rw y at e))))
+        (λ f.
+        let k = given-same g in
+        let x : OwnerInherits rs path (o .found) (o .solved) = walks (folders (length (components path) - 1) path) o (rw f at e) in
+        subst (λ (n : ℕ). OwnerInherits rs path n (r .second)) (ap (λ (y : Reply). y .first) k ∙ sym (s .first))
+        (subst (λ (n : ℕ). OwnerInherits rs path (o .found) n) (ap (λ (y : Reply). y .second) k ∙ sym (s .second)) x))
+
+    -- the numbers of an owner, if one is found
+    pub owner-inherits : (r : Numbers) → numbersOf r ≡ returned (tsconfigOwner commands text path) → r .number ≡ 0 → (r .first ≡ 65535 → ⊥) → OwnerInherits rs path (r .first) (r .second)
+    unfolding tsconfigOwner owner ownerOf
+    owner-inherits r t z some-found =
+        let o = tsconfigOwner commands text path in
+        let (a, e) = answered o r (owner-numbered commands text path) t z in
+        let (qs, b, e₁) = then-given (book commands text) (λ x. owner x path) e in
+        let q : qs ≡ rs = book-records commands text qs b in
+        let e₂ : owner rs path ≡ given a = subst (λ (x : List Parsed). owner x path ≡ given a) q e₁ in
+        let (w, e₃, e₄) = then-given (ownerOf rs path) ownerReply (asked-given (askedPath path) (ownerOf rs path >>= ownerReply) a e₂) in
+        let s = same o a r e t in
+        found r a w e₃ e₄ s some-found
+
+    -- where no owner is found, the config of each folder on the walk loads, and its flat config does not claim the path
+    pub owner-passed : (ds : List Text) → ownerFrom rs path ds ≡ given none → All (Passed rs path) ds
+    unfolding ownerFrom ownerAt owned
+    owner-passed [] e = nil
+    owner-passed (d ∷ ds) e =
+        let (x, more) = passes (find (pushOf d tsconfigJson) (pathsOf rs)) (find-fits d) (ownerFrom rs path ds) e in
+        cons (record { passes = x }) (owner-passed ds more)
+      where
+        passes : (o : Option ℕ) → Fits (length rs) (reached o) → (above : Answer (Option Owner)) → ownerAt rs path o above ≡ given none →
+            ((c : ℕ) → o ≡ some c → (p : Project) × (loadRecord rs c ≡ given p) × (claimsOwnership path (flatSite rs c) (p .references) ≡ false)) × (above ≡ given none)
+        passes none h above y = (λ c n. absurd (none-some c n), y)
+        passes (some b) h above y =
+            let (p, l, g) = then-given (loadRecord rs b) (λ q. owned path q above) y in
+            by-test (claimsOwnership path (p .site) (p .references))
+            (λ t. absurd (none-some _ (sym (given-same (rw t at g)))))
+            (λ f. (λ c n. let k : b ≡ c = cc in subst (λ (i : ℕ). (q : Project) × (loadRecord rs i ≡ given q) × (claimsOwnership path (flatSite rs i) (q .references) ≡ false)) k (p, l, sym ((inherits rs b p h l) .claimed-with path) ∙ f), rw f at g))

@@ -1,0 +1,259 @@
+-- The ways out of the entries. Assumes nothing.
+use mathlib.Core.Path.{_≡_, refl, sym, ap, ap₂, subst, _∙_}
+use mathlib.Core.List.{List, [], _∷_, _++_, map}
+use mathlib.Core.Bool.{Bool, true, false, _&&_, cond}
+use mathlib.Core.Option.{Option, some, none}
+use Prim.Native.Nat.{ℕ, _+_, _≤_, _<_}
+use native.Mathlib.Omega.{arith}
+use lib.ListN.{length, take, drop, length-take}
+use lib.Dec.{ltb, leb}
+use borrow.Author.Tests.{lt-ltb, le-ltb, leb-true}
+use Rattle.text.specs.Bytes.{Text}
+use Rattle.text.specs.Emit.{written, Emits}
+use Rattle.text.proofs.Emits.{written-whole}
+use Rattle.book.specs.Answer.{Answer, refused, given, _>>=_}
+use Rattle.book.specs.Book.{verdict}
+use Rattle.book.specs.declared.Cmd.{Cmd}
+use Rattle.book.specs.Find.{locate}
+use Rattle.strings.specs.Strings.{askedPath, stringRule}
+use Rattle.tsconfig.specs.Parsed.{Parsed, parsed}
+use Rattle.tsconfig_resolver.specs.Find.{pathsOf}
+use Rattle.tsconfig_resolver.specs.Project.{Project, Owner, loadRecord, loadFound, loadPath, ownerOf}
+use Rattle.rows.specs.Records.{recordsOf, parsedOf}
+use Rattle.questions.specs.Questions.{Outcome, Reply, fit, listed, asked, book, build, candidatesOf, owner, ownerReply, tsconfigBuild, tsconfigOwner, tsconfigCandidates, returned, output}
+use Rattle.questions.specs.Replies.{numbersOf, Told, buildReply, buildOf, candidatesFrom, Ready, OpenedBy, Opens}
+use Rattle.questions.specs.declared.Opening.{Opening}
+use Rattle.questions.specs.declared.Opening.the-variants as opening
+use Rattle.text.specs.declared.Found.{Found}
+use Rattle.path.specs.Places.{Holds}
+use Rattle.book.specs.Index.{AcceptedAs, JudgedAs}
+use Rattle.book.specs.declared.Judged.{Judged}
+use Rattle.book.specs.declared.Judged.the-variants as judged
+use Rattle.tsconfig.specs.Listing.{listing}
+use Rattle.tsconfig.specs.Laid.{laid}
+use Rattle.tsconfig_resolver.specs.Find.{recordAt}
+use Rattle.rows.specs.Rows.{numberOf, siteOf, Row}
+use Rattle.load.specs.Loads.{sitesOf, Opened, WholeAs}
+use Rattle.load.specs.declared.Whole.{Whole}
+use Rattle.load.specs.declared.Whole.the-variants as whole
+use Rattle.owner.specs.Owned.{answered}
+use Rattle.owner.specs.declared.Owned.{Owned}
+use Rattle.owner.specs.declared.Owned.the-variants as owned
+use Rattle.questions.specs.declared.Numbers.{Numbers}
+
+-- A refusal
+
+pub refused-numbers : (r : Numbers) (k p : ℕ) → r .number ≡ k → r .place ≡ p → r .first ≡ 0 → r .second ≡ 0 → r .bytes ≡ 0 → numbersOf r ≡ returned (refused k p)
+unfolding returned
+refused-numbers r k p a b c d e = rw (a, b, c, d, e) refl
+
+-- output kept, and the numbers of a refusal
+pub told-refused : (o : Outcome) (r : Numbers) (old new : Text) (k p : ℕ) → o ≡ refused k p → numbersOf r ≡ returned (refused k p) → new ≡ old → Told o r old new
+unfolding output
+told-refused o r old new k p e n u = record { numbers = n ∙ sym (ap returned e); bytes = u ∙ sym (ap (λ (x : Outcome). output x old) e) }
+
+-- A reply that fits, or not: counted over nothing, then written
+
+module _ (reply : Reply) (old : Text) (k : ℕ) (none-in none-out : Text) (counted : Emits (reply .bytes) none-in 0 none-out k) where
+  counts : k ≡ length (reply .bytes)
+  counts = omega (arith, counted .next)
+
+  pub fit-short : length old < k → fit (length old) reply ≡ refused 13 k
+  unfolding fit
+  fit-short h = rw (lt-ltb (length old) (length (reply .bytes)) (omega (arith, h, counts))) (ap (refused 13) (sym counts))
+
+  module _ (h : k ≤ length old) (new : Text) (n : ℕ) (wrote : Emits (reply .bytes) old 0 new n) where
+    fit-given : fit (length old) reply ≡ given reply
+    unfolding fit
+    fit-given = rw (le-ltb (length old) (length (reply .bytes)) (omega (arith, h, counts))) refl
+
+    pub told-given : (r : Numbers) → r .number ≡ 0 → r .place ≡ 0 → r .first ≡ reply .first → r .second ≡ reply .second → r .bytes ≡ n → Told (fit (length old) reply) r old new
+    unfolding returned output
+    told-given r a b c d e =
+        let z : n ≡ length (reply .bytes) = omega (arith, wrote .next) in
+        record {
+          numbers = rw (a, b, c, d, e, z, fit-given) refl;
+          bytes = wrote .text ∙ written-whole (reply .bytes) old (omega (arith, h, counts)) ∙ sym (ap (λ (x : Outcome). output x old) fit-given);
+        }
+
+-- the reply of candidates
+abbrev pub listedReply : List Text → Reply
+listedReply ts = record { first = length ts; second = 0; bytes = laid ts }
+
+-- The asked path, the config that it means, and its load
+
+module _ (rs : List Parsed) (path : Text) (after : Project → Outcome) where
+  pub asked-not : (ok : Bool) → ok ≡ false → asked ok (loadPath rs path >>= after) ≡ refused 7 0
+  unfolding asked
+  asked-not ok e = rw e refl
+
+  module _ (ok : Bool) (e : ok ≡ true) (f : Option ℕ) (h : f ≡ locate (pathsOf rs) path) where
+    pub asked-missing : f ≡ none → asked ok (loadPath rs path >>= after) ≡ refused 8 65535
+    unfolding asked loadPath loadFound
+    asked-missing n = rw (e, ← h, n) refl
+
+    module _ (c : ℕ) (g : f ≡ some c) where
+      pub asked-found : asked ok (loadPath rs path >>= after) ≡ (loadRecord rs c >>= after)
+      unfolding asked loadPath loadFound
+      asked-found = rw (e, ← h, g) refl
+
+-- what a loaded record makes of the rest
+pub after-refused : (rs : List Parsed) (c k p : ℕ) (after : Project → Outcome) → loadRecord rs c ≡ refused k p → (loadRecord rs c >>= after) ≡ refused k p
+after-refused rs c k p after e = rw e refl
+
+pub after-given : (rs : List Parsed) (c : ℕ) (p : Project) (after : Project → Outcome) → loadRecord rs c ≡ given p → (loadRecord rs c >>= after) ≡ after p
+after-given rs c p after e = rw e refl
+
+pub told-as : (a b : Outcome) (r : Numbers) (old new : Text) → a ≡ b → Told b r old new → Told a r old new
+told-as a b r old new e t = record { numbers = t .numbers ∙ sym (ap returned e); bytes = t .bytes ∙ sym (ap (λ (x : Outcome). output x old) e) }
+
+-- The book first
+
+module _ (commands text : Text) where
+  book-refused : (k p : ℕ) → verdict commands text ≡ refused k p → book commands text ≡ refused k p
+  unfolding book
+  book-refused k p e = rw e refl
+
+  book-given : (rs : List (List Cmd)) → verdict commands text ≡ given rs → book commands text ≡ given (recordsOf commands text)
+  unfolding book recordsOf
+  book-given rs e = rw e refl
+
+  module _ (k p : ℕ) (e : verdict commands text ≡ refused k p) where
+    pub build-refused : (path : Text) (room : ℕ) → tsconfigBuild commands text path room ≡ refused k p
+    unfolding tsconfigBuild
+    build-refused path room = rw (book-refused k p e) refl
+
+    pub owner-refused : (path : Text) → tsconfigOwner commands text path ≡ refused k p
+    unfolding tsconfigOwner
+    owner-refused path = rw (book-refused k p e) refl
+
+    pub candidates-refused : (path specifier : Text) (room : ℕ) → tsconfigCandidates commands text path specifier room ≡ refused k p
+    unfolding tsconfigCandidates
+    candidates-refused path specifier room = rw (book-refused k p e) refl
+
+  module _ (rs : List (List Cmd)) (e : verdict commands text ≡ given rs) where
+    pub build-accepted : (path : Text) (room : ℕ) → tsconfigBuild commands text path room ≡ build (recordsOf commands text) room path
+    unfolding tsconfigBuild
+    build-accepted path room = rw (book-given rs e) refl
+
+    pub owner-accepted : (path : Text) → tsconfigOwner commands text path ≡ owner (recordsOf commands text) path
+    unfolding tsconfigOwner
+    owner-accepted path = rw (book-given rs e) refl
+
+    pub candidates-accepted : (path specifier : Text) (room : ℕ) → tsconfigCandidates commands text path specifier room ≡ candidatesOf (recordsOf commands text) room path specifier
+    unfolding tsconfigCandidates
+    candidates-accepted path specifier room = rw (book-given rs e) refl
+
+-- The definitions as such steps
+
+pub build-steps : (rs : List Parsed) (room : ℕ) (path : Text) → build rs room path ≡ asked (askedPath path) (loadPath rs path >>= buildOf rs room)
+unfolding build
+build-steps rs room path = refl
+
+pub candidates-steps : (rs : List Parsed) (room : ℕ) (path s : Text) → candidatesOf rs room path s ≡ asked (askedPath path && stringRule s) (loadPath rs path >>= candidatesFrom s room)
+unfolding candidatesOf
+candidates-steps rs room path s = refl
+
+-- A record that is opened
+
+module _ (rs : List Parsed) (c : ℕ) (row refs : List ℕ) (r : Whole) (w : WholeAs rs c row refs r) where
+  pub opens-refused : (base : List ℕ) (k p : ℕ) → r ≡ whole.Refused k p → Opens rs c row base (opening.Refused k p)
+  opens-refused base k p e = record { told = subst (WholeAs rs c row refs) e w }
+
+  module _ (m k : ℕ) (e : r ≡ whole.Project m k) where
+    pub opened : Opened rs c row refs m k
+    opened = subst (WholeAs rs c row refs) e w
+
+    pub opens-ready : (base : List ℕ) (len : ℕ) → Holds len base ((siteOf rs row) .config .base) → Opens rs c row base (opening.Ready m len)
+    opens-ready base len h = record { told = record { references = sitesOf rs refs k; answer = opened .answer; row-is = opened .row; base-is = h } }
+
+module _ (rs : List Parsed) (c : ℕ) (row base : List ℕ) (r : Opening) (w : Opens rs c row base r) where
+  pub after-not : (after : Project → Outcome) (k p : ℕ) → r ≡ opening.Refused k p → (loadRecord rs c >>= after) ≡ refused k p
+  after-not after k p e = after-refused rs c k p after (subst (OpenedBy rs c row base) e (w .told))
+
+  module _ (m len : ℕ) (e : r ≡ opening.Ready m len) where
+    pub ready : Ready rs c row base m len
+    ready = subst (OpenedBy rs c row base) e (w .told)
+
+    pub after-ready : (after : Project → Outcome) → (loadRecord rs c >>= after) ≡ after (record { site = siteOf rs row; references = ready .references; merges = m })
+    after-ready after = after-given rs c (record { site = siteOf rs row; references = ready .references; merges = m }) after (ready .answer)
+
+-- the base that was written to the buffer
+module _ (buffer base : Text) (len : ℕ) (h : Holds len buffer base) (b : Text) (e : b ≡ take len buffer) where
+  pub base-same : b ≡ base
+  base-same = e ∙ h .bytes
+
+  pub base-short : length buffer ≡ 1600 → length b ≤ 1600
+  base-short l = omega (arith, l, ap length e, length-take len buffer)
+
+-- The listing
+
+pub listing-bytes : (rs : List Parsed) (row : List ℕ) (m : ℕ) → listing (recordAt rs (numberOf row) .references) ((siteOf rs row) .config) ≡ (buildReply rs (siteOf rs row) m) .bytes
+unfolding siteOf
+listing-bytes rs row m = refl
+
+pub emits-listing : (rs : List Parsed) (row : List ℕ) (m : ℕ) (o : Text) (at : ℕ) (u : Text) (k : ℕ) → Emits (listing (recordAt rs (numberOf row) .references) ((siteOf rs row) .config)) o at u k → Emits ((buildReply rs (siteOf rs row) m) .bytes) o at u k
+emits-listing rs row m o at u k h = subst (λ (x : Text). Emits x o at u k) (listing-bytes rs row m) h
+
+pub site-numbered : (rs : List Parsed) (row : List ℕ) → numberOf row ≡ (siteOf rs row) .number
+unfolding siteOf
+site-numbered rs row = refl
+
+-- the paths laid out
+pub listed-fit : (room : ℕ) (ts : List Text) → listed room ts ≡ fit room (record { first = length ts; second = 0; bytes = laid ts })
+unfolding listed
+listed-fit room ts = refl
+
+-- the output as it was
+pub kept-told : (o : Outcome) (r : Numbers) (old : Text) (k p : ℕ) → o ≡ refused k p → numbersOf r ≡ returned (refused k p) → Told o r old old
+kept-told o r old k p e n = told-refused o r old old k p e n refl
+
+-- The owner, which lends no output
+
+module _ (rs : List Parsed) (path : Text) where
+  pub owner-not : (ok : Bool) → ok ≡ askedPath path → ok ≡ false → owner rs path ≡ refused 7 0
+  unfolding owner asked
+  owner-not ok h e = rw (← h, e) refl
+
+  module _ (ok : Bool) (h : ok ≡ askedPath path) (e : ok ≡ true) (r : Owned) (w : ownerOf rs path ≡ answered r (given none)) where
+    owner-is : owner rs path ≡ (answered r (given none) >>= ownerReply)
+    unfolding owner asked
+    owner-is = rw (← h, e, w) refl
+
+    pub owner-refuses : (k p : ℕ) → r ≡ owned.Refused k p → owner rs path ≡ refused k p
+    owner-refuses k p x = owner-is ∙ ap (λ (q : Owned). answered q (given none) >>= ownerReply) x
+
+    pub owner-nobody : r ≡ owned.Nobody → (n : Numbers) → numbersOf n ≡ 0 ∷ 0 ∷ 65535 ∷ 65535 ∷ 0 ∷ [] → numbersOf n ≡ returned (owner rs path)
+    unfolding ownerReply returned
+    owner-nobody x n a = a ∙ sym (ap returned (owner-is ∙ ap (λ (q : Owned). answered q (given none) >>= ownerReply) x))
+
+    pub owner-found : (i j : ℕ) → r ≡ owned.By i j → (n : Numbers) → numbersOf n ≡ 0 ∷ 0 ∷ i ∷ j ∷ 0 ∷ [] → numbersOf n ≡ returned (owner rs path)
+    unfolding ownerReply returned
+    owner-found i j x n a = a ∙ sym (ap returned (owner-is ∙ ap (λ (q : Owned). answered q (given none) >>= ownerReply) x))
+
+-- what is told of a book, by its case
+module _ (commands text : Text) (begins starts lens : List ℕ) (r : Judged) (w : JudgedAs commands text begins starts lens r) where
+  pub judged-no : (k p : ℕ) → r ≡ judged.No k p → verdict commands text ≡ refused k p
+  judged-no k p e = subst (JudgedAs commands text begins starts lens) e w
+
+  pub judged-yes : (n : ℕ) → r ≡ judged.Yes n → AcceptedAs commands text begins starts lens n
+  judged-yes n e = subst (JudgedAs commands text begins starts lens) e w
+
+-- the path and the specifier
+pub both-true : (a b : Bool) → a ≡ true → b ≡ true → a && b ≡ true
+both-true a b e f = rw (e, f) refl
+
+pub first-false : (a b : Bool) → a ≡ false → a && b ≡ false
+first-false a b e = rw e refl
+
+pub second-false : (a b : Bool) → b ≡ false → a && b ≡ false
+second-false true b e = e
+second-false false b e = refl
+
+pub specifier-short : (s : Text) (r : Bool) → r ≡ stringRule s → r ≡ true → length s ≤ 512
+unfolding stringRule
+specifier-short s r e y = leb-true (length s) 512 (first-true (leb (length s) 512) _ (sym e ∙ y))
+  where
+    first-true : (a b : Bool) → a && b ≡ true → a ≡ true
+    first-true true b h = refl
+    first-true false b h = h

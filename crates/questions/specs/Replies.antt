@@ -1,0 +1,60 @@
+-- What the entries answer, in the words of the definitions.
+use mathlib.Core.Path.{_≡_}
+use mathlib.Core.List.{List, [], _∷_}
+use Prim.Native.Nat.{ℕ}
+use lib.ListN.{length}
+use Rattle.text.specs.Bytes.{Text}
+use Rattle.path.specs.Places.{Holds}
+use Rattle.book.specs.Answer.{refused, given, _>>=_}
+use Rattle.rows.specs.Rows.{Row, siteOf}
+use Rattle.tsconfig.specs.Parsed.{Parsed}
+use Rattle.tsconfig.specs.Claims.{Site}
+use Rattle.tsconfig.specs.Listing.{listing}
+use Rattle.tsconfig.specs.Mapping.{candidates}
+use Rattle.tsconfig_resolver.specs.Find.{recordAt}
+use Rattle.tsconfig_resolver.specs.Project.{Project, loadRecord}
+use Rattle.questions.specs.Questions.{Outcome, Reply, fit, listed, returned, output}
+use Rattle.questions.specs.declared.Numbers.{Numbers}
+use Rattle.questions.specs.declared.Opening.{Opening}
+use Rattle.questions.specs.declared.Opening.the-variants as opening
+
+-- the returned struct as 01's numbers
+abbrev pub numbersOf : Numbers → List ℕ
+numbersOf r = r .number ∷ r .place ∷ r .first ∷ r .second ∷ r .bytes ∷ []
+
+-- the numbers returned and the lent output, before and after, are the outcome's
+pub record Told (o : Outcome) (r : Numbers) (old new : Text) : Type 0 where
+  pub numbers : numbersOf r ≡ returned o
+  pub bytes : new ≡ output o old
+
+-- the reply of a build
+abbrev pub buildReply : List Parsed → Site → ℕ → Reply
+buildReply rs s m = record { first = s .number; second = m; bytes = listing (recordAt rs (s .number) .references) (s .config) }
+
+-- what a build makes of a loaded config
+abbrev pub buildOf : List Parsed → ℕ → Project → Outcome
+buildOf rs room p = fit room (buildReply rs (p .site) (p .merges))
+
+-- what is made of the record c, once it is loaded
+abbrev pub loadedThen : List Parsed → ℕ → (Project → Outcome) → Outcome
+loadedThen rs c then = loadRecord rs c >>= then
+
+-- what candidates makes of a loaded config
+abbrev pub candidatesFrom : Text → ℕ → Project → Outcome
+candidatesFrom specifier room p = listed room (candidates (p .site .config) specifier)
+
+-- a record that is loaded, by its row, with the built base of its config and the merges made
+pub record Ready (rs : List Parsed) (c : ℕ) (row base : List ℕ) (m len : ℕ) : Type 0 where
+  pub references : List Site
+  pub answer : loadRecord rs c ≡ given (record { site = siteOf rs row; references = references; merges = m })
+  pub row-is : Row rs row
+  pub base-is : Holds len base ((siteOf rs row) .config .base)
+
+-- by its case
+abbrev pub OpenedBy : List Parsed → ℕ → List ℕ → List ℕ → Opening → Type 0
+OpenedBy rs c row base (opening.Refused k p) = loadRecord rs c ≡ refused k p
+OpenedBy rs c row base (opening.Ready m len) = Ready rs c row base m len
+
+-- what is told of a record that is opened
+pub record Opens (rs : List Parsed) (c : ℕ) (row base : List ℕ) (r : Opening) : Type 0 where
+  pub told : OpenedBy rs c row base r

@@ -1,0 +1,4 @@
+pub mod Rows
+pub mod Records
+pub mod Own
+pub mod Merge

@@ -1,0 +1,2 @@
+-- Laws of the directory and the base of a row's config.
+pub mod Laws

@@ -1,0 +1,4 @@
+-- Laws of the built forms.
+pub mod Lengths
+pub mod Forms
+pub mod Reading
