@@ -18,9 +18,10 @@ use Rattle.book.specs.Command.{decode}
 use Rattle.book.specs.Rules.{pathOf}
 use Rattle.book.specs.Book.{judge, finish, verdict}
 use Rattle.book.specs.Index.{upToEnd, recordAt, beginsOf, Row, AcceptedAs}
-use Rattle.book.specs.State.{texts, Table}
+use Rattle.book.specs.State.{texts, Table, Marked}
+use Rattle.strings.specs.Scan.{digestFrom}
 use Rattle.book.specs.Checks.{Held, ClosedAs, CheckedAs}
-use Rattle.book.proofs.Turns.{texts-put, table-put}
+use Rattle.book.proofs.Turns.{texts-put, table-put, marked-put}
 
 module _ (commands text : Text) where
   pub size-commands : 32768 < length commands → verdict commands text ≡ refused 1 0
@@ -31,31 +32,33 @@ module _ (commands text : Text) where
   unfolding verdict
   size-text h l = rw (le-ltb _ _ h, lt-ltb _ _ l) refl
 
-  pub record Booked (begins starts lens : List ℕ) (n at : ℕ) : Type 0 where
+  pub record Booked (begins starts lens marks : List ℕ) (n at : ℕ) : Type 0 where
     pub records : List (List Cmd)
     pub held : Held text starts lens n records
     pub table : Table text starts lens n
-    pub sizes : (length begins ≡ 64) × ((length starts ≡ 64) × (length lens ≡ 64))
+    pub marked : Marked text starts lens marks n
+    pub sizes : (length begins ≡ 64) × ((length starts ≡ 64) × ((length lens ≡ 64) × (length marks ≡ 64)))
     pub place : at ≤ length commands
     pub whole : verdict commands text ≡ judge text (record { records = records; here = [] }) (decode 0 at (drop at commands))
     pub offsets : beginsOf (decode 0 0 commands) ≡ take n begins ++ beginsOf (decode 0 at (drop at commands))
     pub rows : (i : ℕ) → i < n → Row commands text (getD begins i 0) (getD starts i 0) (getD lens i 0) (getD (reverse (map reverse records)) i [])
 
-  pub booked-none : length commands ≤ 32768 → length text ≤ 65535 → (begins starts lens : List ℕ) → length begins ≡ 64 → length starts ≡ 64 → length lens ≡ 64 → Booked begins starts lens 0 0
+  pub booked-none : length commands ≤ 32768 → length text ≤ 65535 → (begins starts lens marks : List ℕ) → length begins ≡ 64 → length starts ≡ 64 → length lens ≡ 64 → length marks ≡ 64 → Booked begins starts lens marks 0 0
   unfolding verdict texts
-  booked-none h l begins starts lens a b c =
+  booked-none h l begins starts lens marks a b c d =
       record {
         records = [];
         held = record { size = refl; paths = refl };
         table = record { starts-there = omega arith; lens-there = omega arith; small = omega arith; within = λ i h. absurd (omega (arith, h)) };
-        sizes = (a, (b, c));
+        marked = record { there = omega arith; each = λ i h. absurd (omega (arith, h)) };
+        sizes = (a, (b, (c, d)));
         place = omega arith;
         whole = rw (le-ltb _ _ h, le-ltb _ _ l) refl;
         offsets = refl;
         rows = λ i h. absurd (omega (arith, h));
       }
 
-  module _ {begins starts lens : List ℕ} {n at : ℕ} (s : Booked begins starts lens n at) where
+  module _ {begins starts lens marks : List ℕ} {n at : ℕ} (s : Booked begins starts lens marks n at) where
     pub booked-end : length commands ≤ at → AcceptedAs commands text begins starts lens n
     unfolding judge decode finish beginsOf
     booked-end h =
@@ -113,7 +116,7 @@ module _ (commands text : Text) where
         rows-on i h =
             by-test (eqb i n)
             (λ y. subst (λ (j : ℕ). Row commands text (getD (set begins n at) j 0) (getD (set starts n start) j 0) (getD (set lens n len) j 0) (getD (reverse (map reverse (closed-as .closed ∷ s .records))) j [])) (sym (eqb-true i n y))
-            (rw (listed, getD-at (reverse (map reverse (s .records))) (reverse (closed-as .closed)) [] [] n before, getD-set-same begins n at 0 (omega (arith, booked-few, s .sizes .0)), getD-set-same starts n start 0 (omega (arith, booked-few, s .sizes .1 .0)), getD-set-same lens n len 0 (omega (arith, booked-few, s .sizes .1 .1)))
+            (rw (listed, getD-at (reverse (map reverse (s .records))) (reverse (closed-as .closed)) [] [] n before, getD-set-same begins n at 0 (omega (arith, booked-few, s .sizes .0)), getD-set-same starts n start 0 (omega (arith, booked-few, s .sizes .1 .0)), getD-set-same lens n len 0 (omega (arith, booked-few, s .sizes .1 .1 .0)))
             new-row))
             (λ y.
             let other : i ≡ n → ⊥ = eqb-false i n y in
@@ -121,17 +124,18 @@ module _ (commands text : Text) where
             rw (listed, List·getD-append (reverse (map reverse (s .records))) (reverse (closed-as .closed) ∷ []) [] i (omega (arith, less, before)), getD-set-other begins n i at 0 other, getD-set-other starts n i start 0 other, getD-set-other lens n i len 0 other)
             (s .rows i less))
 
-        pub booked-on : Booked (set begins n at) (set starts n start) (set lens n len) (n + 1) to
-        booked-on =
+        pub booked-on : (mark : ℕ) → mark ≡ digestFrom 0 (take len (drop start text)) → Booked (set begins n at) (set starts n start) (set lens n len) (set marks n mark) (n + 1) to
+        booked-on mark y =
             let d = closed-as in
             record {
               records = d .closed ∷ s .records;
               held = record {
                 size = ap suc (s .held .size) ∙ sym (add-one n);
-                paths = here (d .path) ∙ sym (texts-put 64 (omega arith) text starts lens n start len (s .table) (d .within) (d .few) (s .sizes .1 .0) (s .sizes .1 .1));
+                paths = here (d .path) ∙ sym (texts-put 64 (omega arith) text starts lens n start len (s .table) (d .within) (d .few) (s .sizes .1 .0) (s .sizes .1 .1 .0));
               };
-              table = table-put 64 (omega arith) text starts lens n start len (s .table) (d .within) (d .few) (s .sizes .1 .0) (s .sizes .1 .1);
-              sizes = (length-set begins n at ∙ s .sizes .0, (length-set starts n start ∙ s .sizes .1 .0, length-set lens n len ∙ s .sizes .1 .1));
+              table = table-put 64 (omega arith) text starts lens n start len (s .table) (d .within) (d .few) (s .sizes .1 .0) (s .sizes .1 .1 .0);
+              marked = marked-put 64 (omega arith) text starts lens n start len (s .table) (d .within) (d .few) (s .sizes .1 .0) (s .sizes .1 .1 .0) marks (s .marked) (s .sizes .1 .1 .1) mark y;
+              sizes = (length-set begins n at ∙ s .sizes .0, (length-set starts n start ∙ s .sizes .1 .0, (length-set lens n len ∙ s .sizes .1 .1 .0, length-set marks n mark ∙ s .sizes .1 .1 .1)));
               place = omega (arith, d .moves, left, s .place);
               whole =
                   s .whole ∙ ap (λ (l : Text). judge text (record { records = s .records; here = [] }) (decode 0 at l)) (sym is) ∙ d .whole (s .records) (s .held)

@@ -1,12 +1,12 @@
 -- The ways out of the fault of a command. Assumes nothing.
 use mathlib.Core.Path.{_≡_, refl, sym, _∙_}
 use mathlib.Core.List.{List}
-use mathlib.Core.Bool.{Bool, true, false, _&&_, cond}
+use mathlib.Core.Bool.{Bool, true, false, not, _&&_, cond}
 use mathlib.Core.Option.{some, none}
 use Prim.Native.Nat.{ℕ, _+_, _≤_}
 use lib.ListN.{length}
 use lib.Dec.{leb}
-use borrow.Author.Tests.{eq-eqb, ne-eqb, leb-true}
+use borrow.Author.Tests.{eq-eqb, ne-eqb, leb-true, not-true, not-false}
 use Rattle.text.specs.Bytes.{Text}
 use Rattle.book.specs.declared.Cmd.{Cmd}
 use Rattle.text.specs.Text.{someOf}
@@ -26,6 +26,9 @@ module _ (text : Text) (count : ℕ → ℕ) (last n : ℕ) (keys paths : List T
   pub fault-order : (r : Bool) → r ≡ inOrder count last c → r ≡ false → 3 ≡ number (faultOf text count last n keys paths c)
   unfolding faultOf
   fault-order r d e = rw (← d, e) refl
+
+  pub out-of-order : (r : Bool) → r ≡ inOrder count last c → not r ≡ true → 3 ≡ number (faultOf text count last n keys paths c)
+  out-of-order r d e = fault-order r d (not-true r e)
 
   module _ (r₁ : Bool) (d₁ : r₁ ≡ inOrder count last c) (e₁ : r₁ ≡ true) (r₂ : Bool) (d₂ : r₂ ≡ goodString text c) where
     pub fault-string : r₂ ≡ false → 4 ≡ number (faultOf text count last n keys paths c)
@@ -54,3 +57,8 @@ module _ (text : Text) (count : ℕ → ℕ) (last n : ℕ) (keys paths : List T
         pub fault-none : (c .op ≡ begin → ⊥) → (c .op ≡ key → ⊥) → 0 ≡ number (faultOf text count last n keys paths c)
         unfolding givenBefore
         fault-none m o = sym (rest ∙ rw (ne-eqb _ _ m, ne-eqb _ _ o) refl)
+
+pub bad-string :
+    (text : Text) (count : ℕ → ℕ) (last n : ℕ) (keys paths : List Text) (c : Cmd) (r₁ : Bool) → r₁ ≡ inOrder count last c → not r₁ ≡ false →
+    (r₂ : Bool) → r₂ ≡ goodString text c → not r₂ ≡ true → 4 ≡ number (faultOf text count last n keys paths c)
+bad-string text count last n keys paths c r₁ d₁ e₁ r₂ d₂ e₂ = fault-string text count last n keys paths c r₁ d₁ (not-false r₁ e₁) r₂ d₂ (not-true r₂ e₂)

@@ -1,29 +1,30 @@
 -- The rules of order over the state that the code keeps, and that it says what the definition reads off the commands before. Assumes nothing.
 use mathlib.Core.Path.{_≡_, refl, sym, ap, subst, _∙_}
 use mathlib.Core.List.{List, [], _∷_}
-use mathlib.Core.Bool.{Bool, true, false, not, _&&_, _||_, cond, true≢false}
-use Prim.Native.Nat.{ℕ, zero, suc, _+_, _≤_, _<_}
+use mathlib.Core.Bool.{Bool, true, false, not, _&&_, _||_, cond, true≢false, or-true, or-false}
+use Prim.Native.Nat.{ℕ, zero, suc, _+_, _-_, _≤_, _<_}
 use native.Mathlib.Omega.{arith}
 use native.Mathlib.Numerals.{add-one}
-use lib.ListN.{length, getD, set, replicate, length-set}
+use lib.ListN.{length, getD, set, take, drop, replicate, length-set}
 use lib.Seq.{getD-set-same, getD-set-other}
-use lib.Dec.{eqb, ltb, leb, ltb→lt, leb→le}
+use lib.Dec.{eqb, leb, leb→le}
 use borrow.Author.Tests.{eq-eqb, ne-eqb, le-leb, lt-leb, eqb-true, eqb-false, leb-true, leb-false}
 use Rattle.text.specs.Bytes.{Text}
 use Rattle.book.specs.declared.Cmd.{Cmd}
-use Rattle.book.specs.declared.State.{State}
 use Rattle.strings.specs.Strings.{stringRule}
 use Rattle.book.specs.Command.{begin, key, target, flag, textOption}
 use Rattle.book.specs.Rules.{slot, inRange, tally, openers, limits, opened, fresh, follows, inOrder, tooMany, textOf, ownRule, goodString}
 use Rattle.book.specs.State.{has, pushed, Agrees, Slotted}
-use Rattle.book.proofs.Table.{at-each}
+use Rattle.book.proofs.Table.{at-each, T-true}
 use Rattle.path.proofs.Pieces.{by-test}
-
-pub openers-small : (k : ℕ) → k < 21 → getD openers k 0 < 21
-openers-small k h = ltb→lt (getD openers k 0) 21 (at-each (λ i x. ltb x 21) openers tt k h)
 
 pub limits-small : (k : ℕ) → k < 21 → getD limits k 0 ≤ 64
 limits-small k h = leb→le (getD limits k 0) 64 (at-each (λ i x. leb x 64) limits tt k h)
+
+pub limits-eight : (k : ℕ) → k < 21 → eqb (getD limits k 0) 0 ≡ false → 8 ≤ getD limits k 0
+limits-eight k h e =
+    leb-true 8 (getD limits k 0)
+    (let z = T-true (eqb (getD limits k 0) 0 || leb 8 (getD limits k 0)) (at-each (λ i x. eqb x 0 || leb 8 x) limits tt k h) in rw e at z)
 
 and-left : (a b : Bool) → (a && b) ≡ true → a ≡ true
 and-left true b e = refl
@@ -72,6 +73,33 @@ module _ (count : ℕ → ℕ) (last : ℕ) (c : Cmd) (op : ℕ) (is : op ≡ c 
   unfolding tooMany
   many-on n m k f e z s = rw (← s, ← is, ne-eqb _ _ f, ← e, ne-eqb _ _ z) refl
 
+  pub many-few : (n m k : ℕ) → (op ≡ begin → ⊥) → op < 21 → k ≡ slot c → m ≡ count k → m < 8 → false ≡ tooMany count last c n
+  unfolding tooMany
+  many-few n m k f h s e l =
+      rw (← s, ← is, ne-eqb _ _ f, ← e)
+      (by-test (eqb (getD limits op 0) 0)
+      (λ y. rw y refl)
+      (λ y. rw (y, lt-leb (getD limits op 0) m (omega (arith, l, limits-eight op h y))) refl))
+
+-- of `last` it does not speak
+pub many-any : (count : ℕ → ℕ) (last last′ : ℕ) (c : Cmd) (n : ℕ) → tooMany count last c n ≡ tooMany count last′ c n
+unfolding tooMany
+many-any count last last′ c n = refl
+
+-- what opens the command's list is there: w is the opener
+module _ (ns : List ℕ) (op w o : ℕ) (a : w ≡ o) (b : o ≡ getD openers op 0) where
+  pub opened-none : w ≡ 0 → true ≡ (eqb (getD openers op 0) 0 || not (eqb (has ns (getD openers op 0)) 0))
+  opened-none z = rw (← b, ← a, eq-eqb w 0 z) refl
+
+  pub opened-some : (w ≡ 0 → ⊥) → not (eqb (getD ns w 0) 0) ≡ (eqb (getD openers op 0) 0 || not (eqb (has ns (getD openers op 0)) 0))
+  opened-some z = rw (← b, ← a, ne-eqb w 0 z) refl
+
+pub fresh-none : (op n : ℕ) → n ≡ 0 → true ≡ (not (eqb (getD limits op 0) 0) || eqb n 0)
+fresh-none op n z = rw (eq-eqb n 0 z) (sym (or-true (not (eqb (getD limits op 0) 0))))
+
+pub fresh-some : (op n most : ℕ) → (n ≡ 0 → ⊥) → most ≡ getD limits op 0 → not (eqb most 0) ≡ (not (eqb (getD limits op 0) 0) || eqb n 0)
+fresh-some op n most z e = rw (ne-eqb n 0 z, ← e) (sym (or-false (not (eqb most 0))))
+
 module _ (text : Text) (c : Cmd) where
   pub good-out : length text < c .start + c .len → false ≡ goodString text c
   unfolding goodString
@@ -84,6 +112,11 @@ module _ (text : Text) (c : Cmd) where
   pub good-on : c .start + c .len ≤ length text → stringRule (textOf text c) ≡ true → (r : Bool) → r ≡ ownRule (c .op) (textOf text c) → r ≡ goodString text c
   unfolding goodString
   good-on h e r k = rw (le-leb _ _ h, e) k
+
+-- a command's string, cut out of the text
+pub cut-text : (text : Text) (c : Cmd) → take (c .start + c .len - c .start) (drop (c .start) text) ≡ textOf text c
+unfolding textOf
+cut-text text c = let e : c .start + c .len - c .start ≡ c .len = omega arith in ap (λ (k : ℕ). take k (drop (c .start) text)) e
 
 -- the ways out of the code's slot
 module _ (c : Cmd) (op id : ℕ) (is : op ≡ c .op) (at : id ≡ c .id) where
@@ -129,20 +162,20 @@ slot-key c =
     (λ f. rw (e, f) (ne-eqb (32 + c .id) 11 (λ h. absurd (omega (arith, h))) ∙ sym (ne-eqb (c .op) key (λ h. absurd (omega (arith, h, eqb-true (c .op) textOption f))))))
     (λ f. rw (e, f) refl))
 
--- The state after a command says of it and those before what the definition reads off them.
-module _ (st : State) (c : Cmd) (here : List Cmd) (a : Agrees st here) (l : slot c < 39) where
-  same-slot : getD (set (st .counts) (slot c) (has st (slot c) + 1)) (slot c) 0 ≡ suc (tally (slot c) here)
-  same-slot = getD-set-same (st .counts) (slot c) (has st (slot c) + 1) 0 (omega (arith, l, a .size)) ∙ add-one (has st (slot c)) ∙ ap suc (a .counts (slot c))
+-- The counts after a command say of it and those before what the definition reads off them.
+module _ (ns : List ℕ) (last : ℕ) (c : Cmd) (here : List Cmd) (a : Agrees ns last here) (l : slot c < 39) where
+  same-slot : getD (set ns (slot c) (has ns (slot c) + 1)) (slot c) 0 ≡ suc (tally (slot c) here)
+  same-slot = getD-set-same ns (slot c) (has ns (slot c) + 1) 0 (omega (arith, l, a .size)) ∙ add-one (has ns (slot c)) ∙ ap suc (a .each (slot c))
 
   raised : List ℕ
-  raised = set (st .counts) (slot c) (has st (slot c) + 1)
+  raised = set ns (slot c) (has ns (slot c) + 1)
 
   one-more : (j : ℕ) → getD raised j 0 ≡ cond (eqb (slot c) j) (suc (tally j here)) (tally j here)
   unfolding raised
   one-more j =
       by-test (eqb (slot c) j)
-      (λ e. rw e (subst (λ (i : ℕ). getD (set (st .counts) (slot c) (has st (slot c) + 1)) i 0 ≡ suc (tally i here)) (eqb-true (slot c) j e) same-slot))
-      (λ e. rw e (getD-set-other (st .counts) (slot c) j _ 0 (λ q. eqb-false (slot c) j e (sym q)) ∙ a .counts j))
+      (λ e. rw e (subst (λ (i : ℕ). getD (set ns (slot c) (has ns (slot c) + 1)) i 0 ≡ suc (tally i here)) (eqb-true (slot c) j e) same-slot))
+      (λ e. rw e (getD-set-other ns (slot c) j _ 0 (λ q. eqb-false (slot c) j e (sym q)) ∙ a .each j))
 
   key-more : eqb (slot c) key ≡ true → (j : ℕ) → getD (set raised target 0) j 0 ≡ tally j (c ∷ here)
   unfolding tally raised
@@ -152,28 +185,28 @@ module _ (st : State) (c : Cmd) (here : List Cmd) (a : Agrees st here) (l : slot
       let q : slot c ≡ key = eqb-true (slot c) key k in
       let z : j ≡ target = eqb-true j target e in
       rw (k, e, ne-eqb (slot c) j (λ h. absurd (omega (arith, q, z, h))))
-      (subst (λ (i : ℕ). getD (set raised target 0) i 0 ≡ 0) (sym z) (getD-set-same raised target 0 0 (omega (arith, a .size, length-set (st .counts) (slot c) (has st (slot c) + 1))))))
+      (subst (λ (i : ℕ). getD (set raised target 0) i 0 ≡ 0) (sym z) (getD-set-same raised target 0 0 (omega (arith, a .size, length-set ns (slot c) (has ns (slot c) + 1))))))
       (λ e. rw (k, e) (getD-set-other raised target j 0 0 (eqb-false j target e) ∙ one-more j))
 
   other-more : eqb (slot c) key ≡ false → (j : ℕ) → getD raised j 0 ≡ tally j (c ∷ here)
   unfolding tally
   other-more k j = rw k (one-more j)
 
-  pub agree-push : Agrees (pushed st c (slot c)) (c ∷ here)
+  pub agree-push : Agrees (pushed ns c (slot c)) (c .op) (c ∷ here)
   unfolding pushed raised
   agree-push =
       by-test (eqb (c .op) key)
       (λ e. rw e record {
-        size = length-set raised target 0 ∙ length-set (st .counts) (slot c) _ ∙ a .size;
-        counts = key-more (slot-key c ∙ e);
-        last = refl;
+        size = length-set raised target 0 ∙ length-set ns (slot c) _ ∙ a .size;
+        each = key-more (slot-key c ∙ e);
+        byte = refl;
       })
-      (λ e. rw e record { size = length-set (st .counts) (slot c) _ ∙ a .size; counts = other-more (slot-key c ∙ e); last = refl })
+      (λ e. rw e record { size = length-set ns (slot c) _ ∙ a .size; each = other-more (slot-key c ∙ e); byte = refl })
 
 -- at the start of a record
-pub agree-none : (st : State) → st .counts ≡ replicate 39 0 → st .last ≡ 0 → Agrees st []
+pub agree-none : (ns : List ℕ) (last : ℕ) → ns ≡ replicate 39 0 → last ≡ 0 → Agrees ns last []
 unfolding tally
-agree-none st e f = record { size = ap length e; counts = λ k. ap (λ (l : List ℕ). getD l k 0) e ∙ getD-replicate 39 k; last = f }
+agree-none ns last e f = record { size = ap length e; each = λ k. ap (λ (l : List ℕ). getD l k 0) e ∙ getD-replicate 39 k; byte = f }
   where
     getD-replicate : (n k : ℕ) → _≡_ {A = ℕ} (getD (replicate n 0) k 0) 0
     getD-replicate zero k = refl

@@ -1,5 +1,6 @@
 -- Laws of the definitions of specs/, and worked examples.
 pub mod Table
+pub mod Arms
 pub mod Steps
 pub mod Keeps
 pub mod Rows

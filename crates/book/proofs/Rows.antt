@@ -1,19 +1,21 @@
 -- Two strings that meet, and a turn of the loop over a table's rows. Assumes nothing.
 use mathlib.Core.Path.{_≡_, refl, sym, ap, ap₂, _∙_}
 use mathlib.Core.List.{List, [], _∷_, _++_}
-use mathlib.Core.Bool.{Bool, true, false, _&&_, _||_, or-false}
+use mathlib.Core.Bool.{Bool, true, false, _&&_, _||_, cond, or-false, true≢false}
 use Prim.Native.Nat.{ℕ, zero, suc, _-_, _≤_, _<_}
 use native.Mathlib.Omega.{arith}
-use lib.ListN.{length, getD, take, drop, length-append}
+use lib.ListN.{length, getD, take, drop, length-append, length-drop}
+use lib.Seq.{length-take-le}
 use lib.Dec.{eqb}
 use borrow.Author.Tests.{eq-eqb, ne-eqb, eqb-true, eqb-false}
 use Rattle.text.specs.Bytes.{Text, slash}
 use Rattle.text.specs.Text.{prefixOf, sameText, someOf}
 use Rattle.strings.specs.Strings.{covers}
+use Rattle.strings.specs.Scan.{digestFrom}
 use Rattle.text.proofs.Scans.{prefix-short, same-length}
 use Rattle.path.proofs.Pieces.{by-test}
 use Rattle.book.specs.Rules.{clash}
-use Rattle.book.specs.State.{texts, meets}
+use Rattle.book.specs.State.{texts, meets, Table, Marked}
 
 module _ (P : Text → Bool) (text : Text) (starts lens : List ℕ) (i : ℕ) (h : 0 < i) (t : Text) (e : t ≡ take (getD lens (i - 1) 0) (drop (getD starts (i - 1) 0) text)) where
   row : texts text starts lens i ≡ t ∷ texts text starts lens (i - 1)
@@ -80,3 +82,43 @@ module _ (paths : Bool) (a b : Text) (r : Bool) where
 pub meet-not : (paths : Bool) (a b : Text) → paths ≡ false → (length a ≡ length b → ⊥) → false ≡ meets paths a b
 unfolding meets
 meet-not paths a b f h = rw (f, same-length a b h)
+
+-- Two strings that cannot meet
+
+same-whole : (a b : Text) → sameText a b ≡ true → a ≡ b
+unfolding sameText
+same-whole [] [] e = refl
+same-whole [] (y ∷ b) e = absurd (true≢false (sym e))
+same-whole (x ∷ a) [] e = absurd (true≢false (sym e))
+same-whole (x ∷ a) (y ∷ b) e = ap₂ _∷_ (eqb-true x y (left (eqb x y) (sameText a b) e)) (same-whole a b (right (eqb x y) (sameText a b) e))
+  where
+    left : (a b : Bool) → (a && b) ≡ true → a ≡ true
+    left true b e = refl
+    left false b e = e
+
+    right : (a b : Bool) → (a && b) ≡ true → b ≡ true
+    right true b e = e
+    right false b e = absurd (true≢false (sym e))
+
+meet-never : (paths : Bool) (a b : Text) → cond (eqb (length a) (length b)) (eqb (digestFrom 0 a) (digestFrom 0 b)) paths ≡ false → meets paths a b ≡ false
+meet-never paths a b e =
+    by-test (eqb (length a) (length b))
+    (λ y.
+    let l : length a ≡ length b = eqb-true (length a) (length b) y in
+    let d : eqb (digestFrom 0 a) (digestFrom 0 b) ≡ false = rw y at e in
+    sym (meet-same paths a b (covers b a) l refl) ∙ covers-same a b l
+    ∙ by-test (sameText a b)
+    (λ t. absurd (eqb-false (digestFrom 0 a) (digestFrom 0 b) d (ap (digestFrom 0) (same-whole a b t))))
+    (λ f. f))
+    (λ y. let p : paths ≡ false = rw y at e in sym (meet-not paths a b p (eqb-false (length a) (length b) y)))
+
+-- a row that is passed over by its length and mark
+pub row-skip :
+    (paths : Bool) (s text starts lens marks : List ℕ) (n i : ℕ) → Table text starts lens n → Marked text starts lens marks n → 0 < i → i ≤ n →
+    (mark : ℕ) → mark ≡ digestFrom 0 s → (r : Bool) → r ≡ cond (eqb (length s) (getD lens (i - 1) 0)) (eqb mark (getD marks (i - 1) 0)) paths → r ≡ false →
+    someOf (meets paths s) (texts text starts lens i) ≡ someOf (meets paths s) (texts text starts lens (i - 1))
+row-skip paths s text starts lens marks n i t k h l mark m r d e =
+    let size : length (take (getD lens (i - 1) 0) (drop (getD starts (i - 1) 0) text)) ≡ getD lens (i - 1) 0 =
+    length-take-le _ _ (omega (arith, t .within (i - 1) (omega (arith, h, l)), length-drop (getD starts (i - 1) 0) text)) in
+    row-no (meets paths s) text starts lens i h (take (getD lens (i - 1) 0) (drop (getD starts (i - 1) 0) text)) refl
+    (meet-never paths s (take (getD lens (i - 1) 0) (drop (getD starts (i - 1) 0) text)) (rw (size, ← k .each (i - 1) (omega (arith, h, l)), ← m) (sym d ∙ e)))

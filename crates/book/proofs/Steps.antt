@@ -10,7 +10,7 @@ use lib.Dec.{leb, eqb, ltb}
 use native.Mathlib.Nat.{add-zero}
 use borrow.Author.Tests.{le-leb, lt-leb, eq-eqb, ne-eqb, leb-true, leb-false, ltb-true}
 use Rattle.path.proofs.Pieces.{by-test}
-use Rattle.book.specs.Command.{widths, widthOf, operands, Decoded, ended, broken, command, decode, decodeAt}
+use Rattle.book.specs.Command.{begin, word, widths, widthOf, operands, Decoded, ended, broken, command, decode, decodeAt}
 use Rattle.book.specs.Steps.{stepAt}
 use Rattle.text.specs.Bytes.{Text}
 use Rattle.book.specs.declared.Cmd.{Cmd}
@@ -157,3 +157,30 @@ step-ends s at i =
     (λ f. by-test (leb (length s - at) (widthOf (getD s at 0)))
     (λ g. let j : End ≡ Broken = rw (e, f, g) at i in let z : _≡_ {A = ℕ} 0 1 = cc in absurd (omega (arith, z)))
     (λ g. let j : End ≡ Command (operands (widthOf (getD s at 0)) (drop at s)) (record { at = at + widthOf (getD s at 0) + 1 }) = rw (e, f, g) at i in let z : _≡_ {A = ℕ} 0 1 = cc in absurd (omega (arith, z)))))
+
+-- the string of a BEGIN at the head of s
+module _ (s : Text) (c : Cmd) (n : Cursor) where
+  pub record Begun : Type 0 where
+    pub start : c .start ≡ word s 1
+    pub len : c .len ≡ word s 3
+    pub long : 4 < length s
+
+  begun : (w : ℕ) → w ≡ widthOf (getD s 0 0) → w < length s - 0 → Command c n ≡ Command (operands w (drop 0 s)) (record { at = 0 + w + 1 }) → c .op ≡ begin → Begun
+  unfolding widthOf operands
+  begun w d l e o =
+      let q : c ≡ operands w s = cc in
+      let x : getD s 0 0 ≡ 1 = sym (ap (λ (k : Cmd). k .op) q ∙ operands-op w s) ∙ o in
+      let v : w ≡ 4 = d ∙ ap widthOf x in
+      let z : c ≡ operands 4 s = q ∙ ap (λ (k : ℕ). operands k s) v in
+      record { start = ap (λ (k : Cmd). k .start) z; len = ap (λ (k : Cmd). k .len) z; long = omega (arith, v, l) }
+
+  pub step-begins : Command c n ≡ stepAt s 0 → c .op ≡ begin → Begun
+  unfolding stepAt
+  step-begins i o =
+      by-test (leb (length s) 0)
+      (λ e. let j : Command c n ≡ End = rw e at i in let z : _≡_ {A = ℕ} 0 1 = cc in absurd (omega (arith, z)))
+      (λ e. by-test (eqb (widthOf (getD s 0 0)) 9)
+      (λ f. let j : Command c n ≡ Broken = rw (e, f) at i in let z : _≡_ {A = ℕ} 0 1 = cc in absurd (omega (arith, z)))
+      (λ f. by-test (leb (length s - 0) (widthOf (getD s 0 0)))
+      (λ g. let j : Command c n ≡ Broken = rw (e, f, g) at i in let z : _≡_ {A = ℕ} 0 1 = cc in absurd (omega (arith, z)))
+      (λ g. begun (widthOf (getD s 0 0)) refl (leb-false (length s - 0) (widthOf (getD s 0 0)) g) (rw (e, f, g) at i) o)))

@@ -14,19 +14,19 @@ use borrow.Author.Tests.{eq-eqb, ne-eqb, eqb-true, eqb-false, leb-true, leb-fals
 use Rattle.text.specs.Bytes.{Text}
 use Rattle.book.specs.declared.Cmd.{Cmd}
 use Rattle.book.specs.declared.Cursor.{Cursor}
-use Rattle.book.specs.declared.State.{State}
 use Rattle.book.specs.declared.Step.{Step}
 use Rattle.book.specs.declared.Step.the-variants.{Command, Broken, End}
 use Rattle.book.specs.Answer.{refused, unless}
-use Rattle.book.specs.Command.{command, decode, begin, key, end}
+use Rattle.book.specs.Command.{command, decode, word, begin, key, end}
 use Rattle.book.specs.Rules.{slot, tally, inRange, inOrder, opened, fresh, openers, limits, tooMany, goodString, givenBefore, faultOf, fault, pathOf, keysOf, textOf}
 use Rattle.book.specs.Record.{only, firstOf, single, recordPathOf}
 use Rattle.book.specs.Book.{judge, next, finish}
 use Rattle.book.specs.Index.{upToEnd, beginsOf}
-use Rattle.book.specs.State.{has, pushed, Agrees, Slotted, texts, Table, number}
+use Rattle.book.specs.State.{has, pushed, Agrees, Slotted, texts, Table, Marked, number}
+use Rattle.strings.specs.Scan.{digestFrom}
 use Rattle.book.specs.Checks.{Held, ClosedAs}
 use Rattle.book.specs.Steps.{stepAt}
-use Rattle.book.proofs.Steps.{decoded, decode-step, Moved, step-moves, step-ends}
+use Rattle.book.proofs.Steps.{decoded, decode-step, Moved, step-moves, step-ends, step-begins}
 use Rattle.path.proofs.Pieces.{by-test}
 use Rattle.book.proofs.Keeps.{in-slot, agree-push, agree-none, limits-small, slot-key}
 use Rattle.book.proofs.Table.{at-each}
@@ -165,15 +165,30 @@ module _ (size : ℕ) (sixty : size ≤ 64) (text : Text) (ks kl : List ℕ) (m 
       less : (i : ℕ) → i < m + 1 → (i ≡ m → ⊥) → i < m
       less i h n = by-test (leb m i) (λ e. absurd (n (omega (arith, h, leb-true m i e)))) (λ e. leb-false m i e)
 
+  pub marked-put : (km : List ℕ) → Marked text ks kl km m → length km ≡ size → (d : ℕ) → d ≡ digestFrom 0 (take b (drop a text)) → Marked text (set ks m a) (set kl m b) (set km m d) (m + 1)
+  marked-put km k r d e =
+      record {
+        there = omega (arith, l, r, length-set km m d);
+        each = λ i h.
+            by-test (eqb i m)
+            (λ y. subst (λ (j : ℕ). getD (set km m d) j 0 ≡ digestFrom 0 (take (getD (set kl m b) j 0) (drop (getD (set ks m a) j 0) text))) (sym (eqb-true i m y))
+            (rw (getD-set-same ks m a 0 (omega (arith, l, rk)), getD-set-same kl m b 0 (omega (arith, l, rl)), getD-set-same km m d 0 (omega (arith, l, r))) e))
+            (λ y. rw (getD-set-other ks m i a 0 (eqb-false i m y), getD-set-other kl m i b 0 (eqb-false i m y), getD-set-other km m i d 0 (eqb-false i m y)) (k .each i (below i h (eqb-false i m y))));
+      }
+    where
+      below : (i : ℕ) → i < m + 1 → (i ≡ m → ⊥) → i < m
+      below i h n = by-test (leb m i) (λ e. absurd (n (omega (arith, h, leb-true m i e)))) (λ e. leb-false m i e)
+
 module _ (part : Text) (base : ℕ) (text : Text) (ps pl : List ℕ) (n : ℕ) where
-  pub record Sofar (st : State) (ks kl : List ℕ) (m start len at : ℕ) : Type 0 where
+  pub record Sofar (ns : List ℕ) (last : ℕ) (ks kl km : List ℕ) (m at : ℕ) : Type 0 where
     pub here : List Cmd
-    pub agrees : Agrees st here
+    pub agrees : Agrees ns last here
     pub keys : keysOf text here ≡ texts text ks kl m
     pub table : Table text ks kl m
-    pub count : m ≡ has st key
-    pub rows : (length ks ≡ 32) × (length kl ≡ 32)
-    pub path : 0 < length here → (pathOf text here ≡ take len (drop start text)) × (start + len ≤ length text)
+    pub marks : Marked text ks kl km m
+    pub count : m ≡ has ns key
+    pub rows : (length ks ≡ 32) × ((length kl ≡ 32) × (length km ≡ 32))
+    pub path : 0 < length here → (pathOf text here ≡ take (word part 3) (drop (word part 1) text)) × ((word part 1 + word part 3 ≤ length text) × (4 < length part))
     pub few : 0 < length here → n < 64
     pub begun : length here ≡ 0 → at ≡ 0
     pub lead : (length here ≡ 0 → ⊥) → tally begin here ≡ 0 → ⊥
@@ -185,7 +200,7 @@ module _ (part : Text) (base : ℕ) (text : Text) (ps pl : List ℕ) (n : ℕ) w
     pub led : 0 < length here → firstOp here ≡ begin
     pub begins : beginsOf (decode 0 base part) ≡ begunAt here base (beginsOf (decode 0 (base + at) (drop at part)))
 
-  module _ {st : State} {ks kl : List ℕ} {m start len at : ℕ} (s : Sofar st ks kl m start len at) {o : Step} (is : o ≡ stepAt part at) where
+  module _ {ns : List ℕ} {last : ℕ} {ks kl km : List ℕ} {m at : ℕ} (s : Sofar ns last ks kl km m at) {o : Step} (is : o ≡ stepAt part at) where
     turned : (records : List (List Cmd)) → Held text ps pl n records → judge text (record { records = records; here = [] }) (decode 0 base part) ≡ judge text (record { records = records; here = s .here }) (decoded (base + at) at part o)
     turned r h = s .whole r h ∙ ap (judge text (record { records = r; here = s .here })) (decode-step part at (base + at) ∙ ap (decoded (base + at) at part) (sym is))
 
@@ -220,28 +235,28 @@ module _ (part : Text) (base : ℕ) (text : Text) (ps pl : List ℕ) (n : ℕ) w
           decode-step part at (base + at) ∙ ap (decoded (base + at) at part) (sym is ∙ e)
           ∙ ap (λ (p : ℕ). command (base + at) c (decode 0 p (drop (nx .at) part))) place
 
-      same-fault : (r : List (List Cmd)) → Held text ps pl n r → fault text (record { records = r; here = s .here }) c ≡ faultOf text (has st) (st .last) n (texts text ks kl m) (texts text ps pl n) c
+      same-fault : (r : List (List Cmd)) → Held text ps pl n r → fault text (record { records = r; here = s .here }) c ≡ faultOf text (has ns) last n (texts text ks kl m) (texts text ps pl n) c
       unfolding fault
       same-fault r h =
-          rw (h .size, h .paths, s .keys, ← s .agrees .last)
-          (ap (λ (f : ℕ → ℕ). faultOf text f (st .last) n (texts text ks kl m) (texts text ps pl n) c) (fun-ext (λ k. sym (s .agrees .counts k))))
+          rw (h .size, h .paths, s .keys, ← s .agrees .byte)
+          (ap (λ (f : ℕ → ℕ). faultOf text f last n (texts text ks kl m) (texts text ps pl n) c) (fun-ext (λ k. sym (s .agrees .each k))))
 
       judged : (r : List (List Cmd)) → Held text ps pl n r → judge text (record { records = r; here = [] }) (decode 0 base part)
-          ≡ unless (faultOf text (has st) (st .last) n (texts text ks kl m) (texts text ps pl n) c) (base + at) (λ b. judge text b (decode 0 (base + at + (nx .at - at)) (drop (nx .at) part))) (next (record { records = r; here = s .here }) c)
+          ≡ unless (faultOf text (has ns) last n (texts text ks kl m) (texts text ps pl n) c) (base + at) (λ b. judge text b (decode 0 (base + at + (nx .at - at)) (drop (nx .at) part))) (next (record { records = r; here = s .here }) c)
       unfolding judge decoded
       judged r h =
           turned r h ∙ ap (λ (x : Step). judge text (record { records = r; here = s .here }) (decoded (base + at) at part x)) e
           ∙ ap (λ (f : Option ℕ). unless f (base + at) (λ b. judge text b (decode 0 (base + at + (nx .at - at)) (drop (nx .at) part))) (next (record { records = r; here = s .here }) c)) (same-fault r h)
 
-      module _ {f : ℕ} (d : f ≡ number (faultOf text (has st) (st .last) n (texts text ks kl m) (texts text ps pl n) c)) where
+      module _ {f : ℕ} (d : f ≡ number (faultOf text (has ns) last n (texts text ks kl m) (texts text ps pl n) c)) where
         pub turn-fault : (f ≡ 0 → ⊥) → (records : List (List Cmd)) → Held text ps pl n records → judge text (record { records = records; here = [] }) (decode 0 base part) ≡ refused f (base + at)
         turn-fault z r h =
             judged r h ∙ ap (λ (f : Option ℕ). unless f (base + at) (λ b. judge text b (decode 0 (base + at + (nx .at - at)) (drop (nx .at) part))) (next (record { records = r; here = s .here }) c))
-            (faulty text (has st) (st .last) n (texts text ks kl m) (texts text ps pl n) c f d z)
+            (faulty text (has ns) last n (texts text ks kl m) (texts text ps pl n) c f d z)
 
         module _ (z : f ≡ 0) where
-          pub is-clear : Clear text (has st) (st .last) n (texts text ks kl m) (texts text ps pl n) c
-          is-clear = clear text (has st) (st .last) n (texts text ks kl m) (texts text ps pl n) c (sym d ∙ z)
+          pub is-clear : Clear text (has ns) last n (texts text ks kl m) (texts text ps pl n) c
+          is-clear = clear text (has ns) last n (texts text ks kl m) (texts text ps pl n) c (sym d ∙ z)
 
           went : (r : List (List Cmd)) → Held text ps pl n r → judge text (record { records = r; here = [] }) (decode 0 base part) ≡ judge text (next (record { records = r; here = s .here }) c) (decode 0 (base + nx .at) (drop (nx .at) part))
           went r h =
@@ -250,14 +265,14 @@ module _ (part : Text) (base : ℕ) (text : Text) (ps pl : List ℕ) (n : ℕ) w
 
           begins : length (s .here) ≡ 0 → c .op ≡ begin
           unfolding tally
-          begins y = first-begins (has st) (st .last) c (is-clear .order) (moved .byte) (λ k. s .agrees .counts k ∙ empty (s .here) y k)
+          begins y = first-begins (has ns) last c (is-clear .order) (moved .byte) (λ k. s .agrees .each k ∙ empty (s .here) y k)
             where
               empty : (l : List Cmd) → length l ≡ 0 → (k : ℕ) → tally k l ≡ 0
               empty [] y k = refl
               empty (x ∷ l) y k = absurd (omega (arith, y))
 
           begin-only : (length (s .here) ≡ 0 → ⊥) → c .op ≡ begin → ⊥
-          begin-only y x = s .lead y (sym (s .agrees .counts begin) ∙ begin-first (has st) (st .last) c (is-clear .order) x)
+          begin-only y x = s .lead y (sym (s .agrees .each begin) ∙ begin-first (has ns) last c (is-clear .order) x)
 
           reads-end : c .op ≡ end → upToEnd (decode 0 base part) ≡ reverse (s .here)
           unfolding upToEnd
@@ -280,14 +295,25 @@ module _ (part : Text) (base : ℕ) (text : Text) (ps pl : List ℕ) (n : ℕ) w
           begins-on (d ∷ ds) y =
               s .begins ∙ rw (← y, headed, ne-eqb (c .op) begin (begin-only (λ v. absurd (omega (arith, v, ap length y))))) refl
 
-          pub turn-closed : c .op ≡ end → ClosedAs part base text ps pl n (base + nx .at) start len
+          -- a record that ends has begun
+          opened-here : c .op ≡ end → 0 < length (s .here)
+          opened-here q = some-here (s .here) (λ y. absurd (omega (arith, q, begins y)))
+            where
+              some-here : (l : List Cmd) → (length l ≡ 0 → ⊥) → 0 < length l
+              some-here [] h = absurd (h refl)
+              some-here (x ∷ l) h = omega arith
+
+          pub turn-long : c .op ≡ end → 4 < length part
+          turn-long q = s .path (opened-here q) .1 .1
+
+          closed-here : c .op ≡ end → ClosedAs part base text ps pl n (base + nx .at) (word part 1) (word part 3)
           unfolding next
-          turn-closed q =
-              let l : 0 < length (s .here) = some-here (s .here) (λ y. absurd (omega (arith, q, begins y))) in
+          closed-here q =
+              let l : 0 < length (s .here) = opened-here q in
               record {
                 closed = s .here;
                 path = s .path l .0;
-                within = s .path l .1;
+                within = s .path l .1 .0;
                 few = s .few l;
                 moves = (omega (arith, moved .forth), omega (arith, moved .within));
                 whole = λ r h. went r h ∙ rw (eq-eqb _ _ q) (ap (λ (k : ℕ). judge text (record { records = s .here ∷ r; here = [] }) (decode 0 (base + nx .at) (drop k part))) back);
@@ -296,62 +322,63 @@ module _ (part : Text) (base : ℕ) (text : Text) (ps pl : List ℕ) (n : ℕ) w
                 begun = begins-on (s .here) refl ∙ ap (λ (k : ℕ). base ∷ beginsOf (decode 0 (base + nx .at) (drop k part))) back;
               }
             where
-              some-here : (l : List Cmd) → (length l ≡ 0 → ⊥) → 0 < length l
-              some-here [] h = absurd (h refl)
-              some-here (x ∷ l) h = omega arith
-
               back : nx .at ≡ base + nx .at - base
               back = omega arith
 
+          pub turn-closed : c .op ≡ end → (start len : ℕ) → start ≡ word part 1 → len ≡ word part 3 → ClosedAs part base text ps pl n (base + nx .at) start len
+          turn-closed q start len a b = rw (a, b) (closed-here q)
+
           pub key-room : c .op ≡ key → m < 32
-          key-room y = subst (λ (j : ℕ). j < 32) (sym (s .count)) (keys-few (has st) (st .last) c (is-clear .order) n y (is-clear .few))
+          key-room y = subst (λ (j : ℕ). j < 32) (sym (s .count)) (keys-few (has ns) last c (is-clear .order) n y (is-clear .few))
 
           module _ {k : ℕ} (sl : Slotted k c) where
             pub slot-small : k < 39
-            slot-small = in-slot (has st) (st .last) c (is-clear .order) k sl .0
+            slot-small = in-slot (has ns) last c (is-clear .order) k sl .0
 
             pub slot-is : k ≡ slot c
-            slot-is = in-slot (has st) (st .last) c (is-clear .order) k sl .1
+            slot-is = in-slot (has ns) last c (is-clear .order) k sl .1
 
-            pub slot-room : has st k < 255
-            slot-room = subst (λ (j : ℕ). has st j < 255) (sym slot-is) (count-small (has st) (st .last) c (is-clear .order) n (moved .byte) (is-clear .few))
+            pub slot-room : has ns k < 255
+            slot-room = subst (λ (j : ℕ). has ns j < 255) (sym slot-is) (count-small (has ns) last c (is-clear .order) n (moved .byte) (is-clear .few))
 
             within-text : c .start + c .len ≤ length text
             within-text = good-within text c (is-clear .string)
 
-            agrees-on : Agrees (pushed st c k) (c ∷ s .here)
-            agrees-on = subst (λ (j : ℕ). Agrees (pushed st c j) (c ∷ s .here)) (sym slot-is) (agree-push st c (s .here) (s .agrees) (subst (λ (j : ℕ). j < 39) slot-is slot-small))
+            agrees-on : Agrees (pushed ns c k) (c .op) (c ∷ s .here)
+            agrees-on = subst (λ (j : ℕ). Agrees (pushed ns c j) (c .op) (c ∷ s .here)) (sym slot-is) (agree-push ns last c (s .here) (s .agrees) (subst (λ (j : ℕ). j < 39) slot-is slot-small))
 
-            module _ (ks′ kl′ : List ℕ) (m′ start′ len′ : ℕ) where
+            module _ (ks′ kl′ km′ : List ℕ) (m′ : ℕ) where
               record Keyed : Type 0 where
                 keys : keysOf text (c ∷ s .here) ≡ texts text ks′ kl′ m′
                 table : Table text ks′ kl′ m′
-                rows : (length ks′ ≡ 32) × (length kl′ ≡ 32)
-                more : m′ ≡ cond (eqb (c .op) key) (suc (has st key)) (has st key)
+                marks : Marked text ks′ kl′ km′ m′
+                rows : (length ks′ ≡ 32) × ((length kl′ ≡ 32) × (length km′ ≡ 32))
+                more : m′ ≡ cond (eqb (c .op) key) (suc (has ns key)) (has ns key)
 
-              module _ (am : m′ ≡ cond (eqb (c .op) key) (m + 1) m) (ak : ks′ ≡ cond (eqb (c .op) key) (set ks m (c .start)) ks) (al : kl′ ≡ cond (eqb (c .op) key) (set kl m (c .len)) kl) where
+              module _ (am : m′ ≡ cond (eqb (c .op) key) (m + 1) m) (ak : ks′ ≡ cond (eqb (c .op) key) (set ks m (c .start)) ks) (al : kl′ ≡ cond (eqb (c .op) key) (set kl m (c .len)) kl) (ad : km′ ≡ cond (eqb (c .op) key) (set km m (digestFrom 0 (textOf text c))) km) where
                 keyed : Keyed
                 unfolding keysOf textOf
                 keyed =
                     by-test (eqb (c .op) key)
                     (λ y.
                     let r = key-room (eqb-true (c .op) key y) in
-                    rw (am, ak, al, y)
+                    rw (am, ak, al, ad, y)
                     record {
-                      keys = rw y (ap (λ (l : List Text). take (c .len) (drop (c .start) text) ∷ l) (s .keys) ∙ sym (texts-put 32 (omega arith) text ks kl m (c .start) (c .len) (s .table) within-text r (s .rows .0) (s .rows .1)));
-                      table = table-put 32 (omega arith) text ks kl m (c .start) (c .len) (s .table) within-text r (s .rows .0) (s .rows .1);
-                      rows = (length-set ks m (c .start) ∙ s .rows .0, length-set kl m (c .len) ∙ s .rows .1);
+                      keys = rw y (ap (λ (l : List Text). take (c .len) (drop (c .start) text) ∷ l) (s .keys) ∙ sym (texts-put 32 (omega arith) text ks kl m (c .start) (c .len) (s .table) within-text r (s .rows .0) (s .rows .1 .0)));
+                      table = table-put 32 (omega arith) text ks kl m (c .start) (c .len) (s .table) within-text r (s .rows .0) (s .rows .1 .0);
+                      marks = marked-put 32 (omega arith) text ks kl m (c .start) (c .len) (s .table) within-text r (s .rows .0) (s .rows .1 .0) km (s .marks) (s .rows .1 .1) (digestFrom 0 (textOf text c)) refl;
+                      rows = (length-set ks m (c .start) ∙ s .rows .0, (length-set kl m (c .len) ∙ s .rows .1 .0, length-set km m (digestFrom 0 (textOf text c)) ∙ s .rows .1 .1));
                       more = rw y (add-one m ∙ ap suc (s .count));
                     })
-                    (λ y. rw (am, ak, al, y) record { keys = rw y (s .keys); table = s .table; rows = s .rows; more = rw y (s .count) })
+                    (λ y. rw (am, ak, al, ad, y) record { keys = rw y (s .keys); table = s .table; marks = s .marks; rows = s .rows; more = rw y (s .count) })
 
-                count-on : m′ ≡ has (pushed st c k) key
+                count-on : m′ ≡ has (pushed ns c k) key
                 unfolding tally
                 count-on =
                     keyed .more
                     ∙ by-test (eqb (c .op) key)
-                    (λ y. rw y (ap suc (s .agrees .counts key) ∙ sym (agrees-on .counts key ∙ rw (slot-key c, y) refl)))
-                    (λ y. rw y (s .agrees .counts key ∙ sym (agrees-on .counts key ∙ rw (slot-key c, y) refl)))
+                    (λ y. rw y (ap suc (s .agrees .each key) ∙ sym (agrees-on .each key ∙ rw (slot-key c, y) refl)))
+                    (λ y. rw y (s .agrees .each key ∙ sym (agrees-on .each key ∙ rw (slot-key c, y) refl)))
 
                 begin-slot : c .op ≡ begin → slot c ≡ begin
                 unfolding slot
@@ -369,58 +396,58 @@ module _ (part : Text) (base : ℕ) (text : Text) (ps pl : List ℕ) (n : ℕ) w
                     rest : eqb (slot c) begin ≡ false → tally begin (s .here) ≡ 0 → ⊥
                     rest a x = s .lead (λ z. eqb-false (slot c) begin a (begin-slot (begins z))) x
 
-                module _ (ax : start′ ≡ cond (eqb (c .op) begin) (c .start) start) (an : len′ ≡ cond (eqb (c .op) begin) (c .len) len) where
-                  path-on : (l : List Cmd) → l ≡ s .here → (pathOf text (c ∷ l) ≡ take len′ (drop start′ text)) × (start′ + len′ ≤ length text)
-                  unfolding pathOf textOf
-                  path-on [] y =
-                      let b = begins (ap length (sym y)) in
-                      rw (ax, an, eq-eqb (c .op) begin b) (refl, within-text)
-                  path-on (d ∷ ds) y =
-                      let b : c .op ≡ begin → ⊥ = begin-only (λ v. absurd (omega (arith, v, ap length y))) in
-                      rw (ax, an, ne-eqb (c .op) begin b) (subst (λ (l : List Cmd). (pathOf text l ≡ take len (drop start text)) × (start + len ≤ length text)) (sym y) (s .path (omega (arith, ap length y))))
+                path-on : (l : List Cmd) → l ≡ s .here → (pathOf text (c ∷ l) ≡ take (word part 3) (drop (word part 1) text)) × ((word part 1 + word part 3 ≤ length text) × (4 < length part))
+                unfolding pathOf textOf
+                path-on [] y =
+                    let b = step-begins part c nx (sym e ∙ is ∙ ap (stepAt part) (s .begun (ap length (sym y)))) (begins (ap length (sym y))) in
+                    rw (← b .start, ← b .len) (refl, (within-text, b .long))
+                path-on (d ∷ ds) y =
+                    subst (λ (l : List Cmd). (pathOf text l ≡ take (word part 3) (drop (word part 1) text)) × ((word part 1 + word part 3 ≤ length text) × (4 < length part))) (sym y) (s .path (omega (arith, ap length y)))
 
-                  few-on : (l : List Cmd) → l ≡ s .here → n < 64
-                  few-on [] y = begin-few (has st) (st .last) c (is-clear .order) n (begins (ap length (sym y))) (is-clear .few)
-                  few-on (d ∷ ds) y = s .few (omega (arith, ap length y))
+                few-on : (l : List Cmd) → l ≡ s .here → n < 64
+                few-on [] y = begin-few (has ns) last c (is-clear .order) n (begins (ap length (sym y))) (is-clear .few)
+                few-on (d ∷ ds) y = s .few (omega (arith, ap length y))
 
-                  turn-here : (c .op ≡ end → ⊥) → Sofar (pushed st c k) ks′ kl′ m′ start′ len′ (nx .at)
-                  unfolding next begunAt
-                  turn-here q =
-                      record {
-                        here = c ∷ s .here;
-                        agrees = agrees-on;
-                        keys = keyed .keys;
-                        table = keyed .table;
-                        count = count-on;
-                        rows = keyed .rows;
-                        path = λ h. path-on (s .here) refl;
-                        few = λ h. few-on (s .here) refl;
-                        begun = λ h. absurd (omega (arith, h));
-                        lead = λ h. lead-on;
-                        place = moved .within;
-                        whole = λ r h. went r h ∙ rw (ne-eqb (c .op) end q) refl;
-                        reads = reads-on q;
-                        led = λ h. led-on (s .here) refl;
-                        begins = begins-on (s .here) refl;
-                      }
+                turn-here : (c .op ≡ end → ⊥) → Sofar (pushed ns c k) (c .op) ks′ kl′ km′ m′ (nx .at)
+                unfolding next begunAt
+                turn-here q =
+                    record {
+                      here = c ∷ s .here;
+                      agrees = agrees-on;
+                      keys = keyed .keys;
+                      table = keyed .table;
+                      marks = keyed .marks;
+                      count = count-on;
+                      rows = keyed .rows;
+                      path = λ h. path-on (s .here) refl;
+                      few = λ h. few-on (s .here) refl;
+                      begun = λ h. absurd (omega (arith, h));
+                      lead = λ h. lead-on;
+                      place = moved .within;
+                      whole = λ r h. went r h ∙ rw (ne-eqb (c .op) end q) refl;
+                      reads = reads-on q;
+                      led = λ h. led-on (s .here) refl;
+                      begins = begins-on (s .here) refl;
+                    }
 
-                  pub turn-on : (c .op ≡ end → ⊥) → (st′ : State) → st′ ≡ pushed st c k → Sofar st′ ks′ kl′ m′ start′ len′ (nx .at)
-                  turn-on q st′ y = subst (λ (x : State). Sofar x ks′ kl′ m′ start′ len′ (nx .at)) (sym y) (turn-here q)
+                pub turn-on : (c .op ≡ end → ⊥) → (ns′ : List ℕ) → ns′ ≡ pushed ns c k → (last′ : ℕ) → last′ ≡ c .op → Sofar ns′ last′ ks′ kl′ km′ m′ (nx .at)
+                turn-on q ns′ y last′ z = rw (y, z) (turn-here q)
 
           pub turn-less : length part - nx .at < length part - at
           turn-less = omega (arith, moved .forth, moved .within)
 
   -- before the first command
-  pub sofar-none : (st : State) (ks kl : List ℕ) → st .counts ≡ replicate 39 0 → st .last ≡ 0 → length ks ≡ 32 → length kl ≡ 32 → Sofar st ks kl 0 0 0 0
+  pub sofar-none : (ns : List ℕ) (last : ℕ) (ks kl km : List ℕ) → ns ≡ replicate 39 0 → last ≡ 0 → length ks ≡ 32 → length kl ≡ 32 → length km ≡ 32 → Sofar ns last ks kl km 0 0
   unfolding keysOf texts begunAt
-  sofar-none st ks kl e f a b =
+  sofar-none ns last ks kl km e f a b d =
       record {
         here = [];
-        agrees = agree-none st e f;
+        agrees = agree-none ns last e f;
         keys = refl;
         table = record { starts-there = omega arith; lens-there = omega arith; small = omega arith; within = λ i h. absurd (omega (arith, h)) };
+        marks = record { there = omega arith; each = λ i h. absurd (omega (arith, h)) };
         count = sym (ap (λ (l : List ℕ). getD l 11 0) e);
-        rows = (a, b);
+        rows = (a, (b, d));
         path = λ h. absurd (omega (arith, h));
         few = λ h. absurd (omega (arith, h));
         begun = λ h. refl;

@@ -7,31 +7,28 @@ use lib.ListN.{length, getD, set, take, drop}
 use lib.Dec.{eqb}
 use mathlib.Core.Option.{Option, some, none}
 use Rattle.text.specs.Text.{sameText}
+use Rattle.strings.specs.Scan.{digestFrom}
 use Rattle.book.specs.declared.Cmd.{Cmd}
-use Rattle.book.specs.declared.State.{State}
 use Rattle.book.specs.Rules.{slot, inRange, tally, lastOp, clash}
 
 -- how many of a slot
-abbrev pub has : State → ℕ → ℕ
-has st k = getD (st .counts) k 0
+abbrev pub has : List ℕ → ℕ → ℕ
+has counts k = getD counts k 0
 
 -- r is the command's slot, or 39 where its id or value is out of range
 pub record Slotted (r : ℕ) (c : Cmd) : Type 0 where
   pub inside : r < 39 → (inRange c ≡ true) × (r ≡ slot c)
   pub outside : 39 ≤ r → inRange c ≡ false
 
--- the state after a command
-unfoldable pub pushed : State → Cmd → ℕ → State
-pushed st c k =
-    cond (eqb (c .op) 11)
-    (record { counts = set (set (st .counts) k (has st k + 1)) 12 0; last = c .op })
-    (record { counts = set (st .counts) k (has st k + 1); last = c .op })
+-- how many of each slot there are after a command whose slot is k
+unfoldable pub pushed : List ℕ → Cmd → ℕ → List ℕ
+pushed counts c k = cond (eqb (c .op) 11) (set (set counts k (has counts k + 1)) 12 0) (set counts k (has counts k + 1))
 
--- The state says of the commands before, newest first, what the definition reads off them.
-pub record Agrees (st : State) (here : List Cmd) : Type 0 where
-  pub size : length (st .counts) ≡ 39
-  pub counts : (k : ℕ) → has st k ≡ tally k here
-  pub last : st .last ≡ lastOp here
+-- The counts and the last command's byte say of the commands before, newest first, what the definition reads off them.
+pub record Agrees (counts : List ℕ) (last : ℕ) (here : List Cmd) : Type 0 where
+  pub size : length counts ≡ 39
+  pub each : (k : ℕ) → has counts k ≡ tally k here
+  pub byte : last ≡ lastOp here
 
 -- the strings that the first n rows of a table of starts and lengths say, the last row first
 unfoldable pub texts : List ℕ → List ℕ → List ℕ → ℕ → List (List ℕ)
@@ -44,6 +41,11 @@ pub record Table (text starts lens : List ℕ) (n : ℕ) : Type 0 where
   pub lens-there : n ≤ length lens
   pub small : n ≤ 64
   pub within : (i : ℕ) → i < n → getD starts i 0 + getD lens i 0 ≤ length text
+
+-- the marks of the first n rows are there, each the digest of the row's string
+pub record Marked (text starts lens marks : List ℕ) (n : ℕ) : Type 0 where
+  pub there : n ≤ length marks
+  pub each : (i : ℕ) → i < n → getD marks i 0 ≡ digestFrom 0 (take (getD lens i 0) (drop (getD starts i 0) text))
 
 -- two strings meet: as paths, or as keys
 unfoldable pub meets : Bool → List ℕ → List ℕ → Bool

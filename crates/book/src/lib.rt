@@ -1,21 +1,24 @@
 // The book: its commands, and the check of each in turn.
 use strings::covers;
-use strings::is_pattern;
-use strings::is_record_path;
-use strings::is_string;
+use strings::digest;
+use strings::is_pattern_of;
+use strings::is_record_path_of;
+use strings::is_string_of;
+use strings::is_tame;
 use strings::obeys_lead;
 use text::from;
 use text::upto;
 ghost use mathlib.Core.Path.{_≡_};
 ghost use mathlib.Core.Bool.{true, false, not, _||_, cond};
 ghost use Prim.Native.Nat.{_+_, _*_, _<_, _≤_};
-ghost use lib.ListN.{length, getD, set, take, drop, replicate};
-ghost use lib.Dec.{eqb, leb};
+ghost use lib.ListN.{length, getD, set, take, drop};
+ghost use lib.Dec.{eqb, ltb};
 ghost use Rattle.text.specs.Text.{someOf};
-ghost use Rattle.book.specs.Command.{begin, key, target, widthOf, word, operands};
+ghost use Rattle.strings.specs.Scan.{tameText, digestFrom};
+ghost use Rattle.book.specs.Command.{key, target, flag, widthOf, word, operands};
 ghost use Rattle.book.specs.Rules.{slot, openers, limits, inOrder, tooMany, textOf, ownRule, goodString, faultOf};
 ghost use Rattle.book.specs.Steps.{stepAt};
-ghost use Rattle.book.specs.State.{Slotted, has, pushed, texts, Table, meets, number};
+ghost use Rattle.book.specs.State.{Slotted, has, pushed, texts, Table, Marked, meets, number};
 ghost use Rattle.book.specs.Index.{JudgedAs};
 ghost use Rattle.book.specs.Checks.{CheckedAs};
 
@@ -61,89 +64,14 @@ pub const TEXT_OPTION: u8 = 0x13;
 
 pub const END: u8 = 0x14;
 
-// How many commands there are, 00 counted, which is none.
-const COMMANDS: usize = 21;
-
-// The operand bytes of the commands; 9 where there is no such command.
-const WIDTHS: [u8; 21] = [
-    9, // none
-    4, // BEGIN
-    0, // FILES
-    4, // FILE
-    0, // INCLUDE
-    4, // INCLUDE_ITEM
-    0, // EXCLUDE
-    4, // EXCLUDE_ITEM
-    4, // EXTENDS
-    4, // BASE_URL
-    0, // PATHS
-    4, // KEY
-    4, // TARGET
-    4, // REFERENCE
-    0, // ROOT_DIRS
-    4, // ROOT_DIR
-    4, // OUT_DIR
-    4, // DECLARATION_DIR
-    2, // FLAG
-    5, // TEXT_OPTION
-    0, // END
-];
-
-// What each command must come after in its record; 0 for BEGIN.
-const OPENERS: [u8; 21] = [
-    BEGIN, // none
-    0, // BEGIN
-    BEGIN, // FILES
-    FILES, // FILE
-    BEGIN, // INCLUDE
-    INCLUDE, // INCLUDE_ITEM
-    BEGIN, // EXCLUDE
-    EXCLUDE, // EXCLUDE_ITEM
-    BEGIN, // EXTENDS
-    BEGIN, // BASE_URL
-    BEGIN, // PATHS
-    PATHS, // KEY
-    KEY, // TARGET
-    BEGIN, // REFERENCE
-    BEGIN, // ROOT_DIRS
-    ROOT_DIRS, // ROOT_DIR
-    BEGIN, // OUT_DIR
-    BEGIN, // DECLARATION_DIR
-    BEGIN, // FLAG
-    BEGIN, // TEXT_OPTION
-    BEGIN, // END
-];
-
-// How many of a command a record may have, of targets a key; 0 where it comes once.
-const LIMITS: [u8; 21] = [
-    0, // none
-    0, // BEGIN
-    0, // FILES
-    64, // FILE
-    0, // INCLUDE
-    64, // INCLUDE_ITEM
-    0, // EXCLUDE
-    64, // EXCLUDE_ITEM
-    8, // EXTENDS
-    0, // BASE_URL
-    0, // PATHS
-    32, // KEY
-    8, // TARGET
-    16, // REFERENCE
-    0, // ROOT_DIRS
-    8, // ROOT_DIR
-    0, // OUT_DIR
-    0, // DECLARATION_DIR
-    0, // FLAG
-    0, // TEXT_OPTION
-    0, // END
-];
-
 const MOST_COMMANDS: usize = 32768;
 
 const MOST_TEXT: usize = 65535;
 
 const MOST_RECORDS: usize = 64;
+
+// The least that a limit is.
+const FEWEST: u8 = 8;
 
 // What a command counts as, its slot, is its byte, but each flag id and each text id counts by itself: the slot of the targets, the first
 // of the flags and of the text options, and how many slots there are.
@@ -184,12 +112,27 @@ fn wide(x: u8) -> usize
     x as usize
 }
 
+// The operand bytes of a command that is not without, no flag and no text option: those of a string; 9 for an unknown byte.
+fn string_width(op: u8) -> usize
+    ensures { λ r. ⌜ r ≡ cond (ltb op flag) 4 9 ⌝ }
+{
+    if FLAG <= op {
+        return 9;
+    }
+    4
+}
+
 // The operand bytes of a command; 9 for an unknown byte.
 fn width(op: u8) -> usize
     ensures { λ r. ⌜ r ≡ widthOf op ⌝ }
 {
-    let i = op as usize;
-    if i < COMMANDS { wide(WIDTHS[i]) } else { 9 }
+    match op {
+        FILES | INCLUDE | EXCLUDE | PATHS | ROOT_DIRS | END => 0,
+        FLAG => 2,
+        TEXT_OPTION => 5,
+        0 => 9,
+        _ => string_width(op),
+    }
 }
 
 // Two bytes, low first.
@@ -287,11 +230,12 @@ pub fn string_of(text: &[u8], c: Cmd) -> &[u8]
 }
 
 // The rule of its own that a command's string has.
-fn own_rule(op: u8, s: &[u8]) -> bool
+fn own_rule(tame: bool, op: u8, s: &[u8]) -> bool
+    requires { ⌜ (tame ≡ true → tameText (now s) ≡ true) ⌝ }
     ensures { λ r. ⌜ r ≡ ownRule op (now (s .entry)) ⌝ }
 {
     if op == BEGIN {
-        return is_record_path(s);
+        return is_record_path_of(tame, s);
     }
     if op == EXTENDS {
         return obeys_lead(s);
@@ -300,16 +244,17 @@ fn own_rule(op: u8, s: &[u8]) -> bool
         return obeys_lead(s);
     }
     if op == INCLUDE_ITEM {
-        return is_pattern(s);
+        return is_pattern_of(tame, s);
     }
     if op == EXCLUDE_ITEM {
-        return is_pattern(s);
+        return is_pattern_of(tame, s);
     }
     true
 }
 
 // Whether a command's string lies in the text and keeps its rules: refusal 4 where not.
-fn good_string(text: &[u8], c: Cmd) -> bool
+fn good_string(tame: bool, text: &[u8], c: Cmd) -> bool
+    requires { ⌜ (tame ≡ true → tameText (now text) ≡ true) ⌝ }
     ensures { λ r. ⌜ r ≡ goodString (now (text .entry)) c ⌝ }
 {
     let start = c.start;
@@ -321,17 +266,11 @@ fn good_string(text: &[u8], c: Cmd) -> bool
     if text.len() - start < len {
         return false;
     }
-    let s = string_of(text, c);
-    if !is_string(s) {
+    let s = &text[start..start + len];
+    if !is_string_of(tame, s) {
         return false;
     }
-    own_rule(op, s)
-}
-
-// What is kept of the commands before in a record: how many of each slot, targets from their key on, and the last command's byte.
-struct State {
-    pub counts: [u8; 39],
-    pub last: u8,
+    own_rule(tame, op, s)
 }
 
 // What a command counts as; SLOTS where its id or value is out of range.
@@ -340,6 +279,9 @@ fn slot_of(c: Cmd) -> usize
     ensures { λ r. ⌜ Slotted r c ⌝ }
 {
     let op = c.op;
+    if op < FLAG {
+        return wide(op);
+    }
     let id = wide(c.id);
     let value = c.value;
     if op == FLAG {
@@ -360,55 +302,57 @@ fn slot_of(c: Cmd) -> usize
     wide(op)
 }
 
-fn opener_of(op: usize) -> usize
+// What a command must come after in its record: where it is one of a list, what opens the list, whose byte is the one before. 0 for BEGIN.
+fn opener_of(op: u8) -> u8
     requires { ⌜ op < 21 ⌝ }
     ensures { λ r. ⌜ (r ≡ getD openers op 0) × (r < 21) ⌝ }
 {
-    wide(OPENERS[op])
+    if op == TARGET {
+        return KEY;
+    }
+    match op {
+        BEGIN | FILE | INCLUDE_ITEM | EXCLUDE_ITEM | KEY | ROOT_DIR => op - 1,
+        _ => BEGIN,
+    }
 }
 
-fn limit_of(op: usize) -> u8
+// How many of a command a record may have, of targets a key; 0 where it comes once.
+fn limit_of(op: u8) -> u8
     requires { ⌜ op < 21 ⌝ }
     ensures { λ r. ⌜ (r ≡ getD limits op 0) × (r ≤ 64) ⌝ }
 {
-    LIMITS[op]
+    match op {
+        FILE | INCLUDE_ITEM | EXCLUDE_ITEM => 64,
+        EXTENDS | TARGET | ROOT_DIR => 8,
+        KEY => 32,
+        REFERENCE => 16,
+        _ => 0,
+    }
 }
 
-impl State {
-    fn new() -> State
-        ensures { λ r. ⌜ (r .counts ≡ (replicate 39 0)) × (r .last ≡ 0) ⌝ }
-    {
-        State {
-            counts: [0; 39],
-            last: 0,
-        }
+// What the command must come after is there. Of the commands before there are counts, of each slot.
+fn is_opened(counts: &[u8], op: u8) -> bool
+    requires { ⌜ (op < 21) × (length (now counts) ≡ 39) ⌝ }
+    ensures { λ r. ⌜ r ≡ (eqb (getD openers op 0) 0 || not (eqb (has (now (counts .entry)) (getD openers op 0)) 0)) ⌝ }
+{
+    let opener = wide(opener_of(op));
+    if opener == 0 {
+        return true;
     }
+    let n = counts[opener];
+    n != 0
+}
 
-    // What the command must come after is there.
-    fn is_opened(self, op: usize) -> bool
-        requires { ⌜ op < 21 ⌝ }
-        ensures { λ r. ⌜ r ≡ (eqb (getD openers op 0) 0 || not (eqb (has self (getD openers op 0)) 0)) ⌝ }
-    {
-        let opener = opener_of(op);
-        if opener == 0 {
-            return true;
-        }
-        let n = self.counts[opener];
-        n != 0
+// The command is the first of its slot, of which there are n before, or may repeat.
+fn is_fresh(op: u8, n: u8) -> bool
+    requires { ⌜ op < 21 ⌝ }
+    ensures { λ r. ⌜ r ≡ (not (eqb (getD limits op 0) 0) || eqb n 0) ⌝ }
+{
+    if n == 0 {
+        return true;
     }
-
-    // The command, whose slot is k, may repeat or is the first of its slot.
-    fn is_fresh(self, op: usize, k: usize) -> bool
-        requires { ⌜ (op < 21) × (k < 39) ⌝ }
-        ensures { λ r. ⌜ r ≡ (not (eqb (getD limits op 0) 0) || eqb (has self k) 0) ⌝ }
-    {
-        let most = limit_of(op);
-        if most != 0 {
-            return true;
-        }
-        let n = self.counts[k];
-        n == 0
-    }
+    let most = limit_of(op);
+    most != 0
 }
 
 // A target comes after its key with only targets between.
@@ -425,55 +369,58 @@ fn does_follow(op: u8, last: u8) -> bool
 }
 
 // Whether a command, whose slot is k, keeps the rules of order: refusal 3 where not.
-fn in_order(st: State, c: Cmd, k: usize) -> bool
-    requires { ⌜ (c .op < 21) × Slotted k c ⌝ }
-    ensures { λ r. ⌜ r ≡ inOrder (has st) (st .last) c ⌝ }
+fn in_order(counts: &[u8], last: u8, c: Cmd, k: usize) -> bool
+    requires { ⌜ (c .op < 21) × (Slotted k c × (length (now counts) ≡ 39)) ⌝ }
+    ensures { λ r. ⌜ r ≡ inOrder (has (now (counts .entry))) last c ⌝ }
 {
     if SLOTS <= k {
         return false;
     }
-    let op = wide(c.op);
-    let last = st.last;
-    if !st.is_opened(op) {
+    let op = c.op;
+    if !is_opened(counts, op) {
         return false;
     }
-    if !st.is_fresh(op, k) {
+    let n = counts[k];
+    if !is_fresh(op, n) {
         return false;
     }
-    does_follow(c.op, last)
+    does_follow(op, last)
 }
 
-// Whether a command, whose slot is k, is one too many, with n records before: refusal 5.
-fn is_too_many(st: State, c: Cmd, k: usize, n: usize) -> bool
-    requires { ⌜ (c .op < 21) × ((k < 39) × (k ≡ slot c)) ⌝ }
-    ensures { λ r. ⌜ r ≡ tooMany (has st) (st .last) c n ⌝ }
+// Whether a command, whose slot is k, is one too many, with n records before: refusal 5. Of none that may repeat may there be fewer than 8.
+fn is_too_many(counts: &[u8], c: Cmd, k: usize, n: usize) -> bool
+    requires { ⌜ (c .op < 21) × ((k < 39) × ((k ≡ slot c) × (length (now counts) ≡ 39))) ⌝ }
+    ensures { λ r. ⌜ r ≡ tooMany (has (now (counts .entry))) 0 c n ⌝ }
 {
-    if c.op == BEGIN {
+    let op = c.op;
+    if op == BEGIN {
         return MOST_RECORDS <= n;
     }
-    let op = wide(c.op);
+    let m = counts[k];
+    if m < FEWEST {
+        return false;
+    }
     let most = limit_of(op);
     if most == 0 {
         return false;
     }
-    let m = st.counts[k];
     most <= m
 }
 
-// The state after a command, whose slot is k. A key counts its targets anew.
-fn push(st: State, c: Cmd, k: usize) -> State
-    requires { ⌜ (k < 39) × (has st k < 255) ⌝ }
-    ensures { λ r. ⌜ r ≡ pushed st c k ⌝ }
+// One command more, whose slot is k; a key counts its targets anew. The command's byte.
+fn push(counts: &mut [u8], c: Cmd, k: usize) -> u8
+    requires { ⌜ (k < 39) × ((has (now counts) k < 255) × (length (now counts) ≡ 39)) ⌝ }
+    ensures { λ r. ⌜ r ≡ c .op ⌝ }
+    ensures { λ r. ⌜ now (counts .exit) ≡ pushed (now (counts .entry)) c k ⌝ }
 {
-    let mut next = st;
-    let n = next.counts[k];
-    next.counts[k] = n + 1;
-    next.last = c.op;
-    if c.op == KEY {
-        next.counts[TARGET_SLOT] = 0;
-        return next;
+    let op = c.op;
+    let n = counts[k];
+    counts[k] = n + 1;
+    if op == KEY {
+        counts[TARGET_SLOT] = 0;
+        return op;
     }
-    next
+    op
 }
 
 // Whether two strings meet: as paths, one the other or its ancestor; as keys, the same. Of two strings of one length, one covers the other
@@ -493,16 +440,41 @@ fn do_meet(paths: bool, a: &[u8], b: &[u8]) -> bool
     covers(b, a)
 }
 
-// Whether one of the strings of the first n rows meets s.
-fn is_met(paths: bool, text: &[u8], starts: &[usize], lens: &[usize], n: usize, s: &[u8]) -> bool
+// Whether two strings may meet, by their lengths and digests: of two of one length, only where the digests are the same.
+fn may_meet(paths: bool, size: usize, len: usize, mark: u8, other: u8) -> bool
+    ensures { λ r. ⌜ r ≡ cond (eqb size len) (eqb mark other) paths ⌝ }
+{
+    if size == len {
+        return mark == other;
+    }
+    paths
+}
+
+// Whether one of the strings of the first n rows, whose digests are the marks, meets s.
+fn is_met(
+    paths: bool,
+    text: &[u8],
+    starts: &[usize],
+    lens: &[usize],
+    marks: &[u8],
+    n: usize,
+    s: &[u8],
+) -> bool
     requires { ⌜ Table (now text) (now starts) (now lens) n ⌝ }
+    requires { ⌜ Marked (now text) (now starts) (now lens) (now marks) n ⌝ }
     ensures { λ r. ⌜ r ≡ someOf (meets paths (now (s .entry))) (texts (now (text .entry)) (now (starts .entry)) (now (lens .entry)) n) ⌝ }
 {
+    let mark = digest(s);
+    let size = s.len();
     let mut i = n;
     while 0 < i {
         i -= 1;
-        let start = starts[i];
         let len = lens[i];
+        let other = marks[i];
+        if !may_meet(paths, size, len, mark, other) {
+            continue;
+        }
+        let start = starts[i];
         let t = piece(text, start, len);
         if do_meet(paths, s, t) {
             return true;
@@ -511,45 +483,49 @@ fn is_met(paths: bool, text: &[u8], starts: &[usize], lens: &[usize], n: usize, 
     false
 }
 
-// The lowest refusal of a command, 0 for none. Before it stand m keys in its record, with starts ks and lengths kl, and n records.
+// The lowest refusal of a command, 0 for none. Before it stand m keys in its record, with starts ks, lengths kl and digests km, and n records.
 fn fault_of(
+    tame: bool,
     text: &[u8],
-    st: State,
+    counts: &[u8],
+    last: u8,
     c: Cmd,
+    k: usize,
     ks: &[usize],
     kl: &[usize],
+    km: &[u8],
     m: usize,
     starts: &[usize],
     lens: &[usize],
+    marks: &[u8],
     n: usize,
 ) -> u32
-    requires { ⌜ c .op < 21 ⌝ }
-    requires { ⌜ Table (now text) (now ks) (now kl) m ⌝ }
-    requires { ⌜ Table (now text) (now starts) (now lens) n ⌝ }
-    ensures { λ r. ⌜ r ≡ number (faultOf (now (text .entry)) (has st) (st .last) n (texts (now (text .entry)) (now (ks .entry)) (now (kl .entry)) m) (texts (now (text .entry)) (now (starts .entry)) (now (lens .entry)) n) c) ⌝ }
+    requires { ⌜ (c .op < 21) × (Slotted k c × (length (now counts) ≡ 39)) ⌝ }
+    requires { ⌜ (tame ≡ true → tameText (now text) ≡ true) ⌝ }
+    requires { ⌜ Table (now text) (now ks) (now kl) m × Marked (now text) (now ks) (now kl) (now km) m ⌝ }
+    requires { ⌜ Table (now text) (now starts) (now lens) n × Marked (now text) (now starts) (now lens) (now marks) n ⌝ }
+    ensures { λ r. ⌜ r ≡ number (faultOf (now (text .entry)) (has (now (counts .entry))) last n (texts (now (text .entry)) (now (ks .entry)) (now (kl .entry)) m) (texts (now (text .entry)) (now (starts .entry)) (now (lens .entry)) n) c) ⌝ }
 {
-    let k = slot_of(c);
-    let ordered = in_order(st, c, k);
-    let good = good_string(text, c);
-    if !ordered {
+    if !in_order(counts, last, c, k) {
         return 3;
     }
-    if !good {
+    if !good_string(tame, text, c) {
         return 4;
     }
-    if is_too_many(st, c, k, n) {
+    if is_too_many(counts, c, k, n) {
         return 5;
     }
     let op = c.op;
-    let s = string_of(text, c);
     if op == BEGIN {
-        if is_met(true, text, starts, lens, n, s) {
+        let s = string_of(text, c);
+        if is_met(true, text, starts, lens, marks, n, s) {
             return 6;
         }
         return 0;
     }
     if op == KEY {
-        if is_met(false, text, ks, kl, m, s) {
+        let s = string_of(text, c);
+        if is_met(false, text, ks, kl, km, m, s) {
             return 6;
         }
         return 0;
@@ -558,29 +534,30 @@ fn fault_of(
 }
 
 // A key's row put into the table; how many rows there are then.
-fn put_key(ks: &mut [usize], kl: &mut [usize], m: usize, c: Cmd) -> usize
-    requires { ⌜ (c .op ≡ key → (m < 32)) × ((length (now ks) ≡ 32) × (length (now kl) ≡ 32)) ⌝ }
+fn put_key(
+    text: &[u8],
+    ks: &mut [usize],
+    kl: &mut [usize],
+    km: &mut [u8],
+    m: usize,
+    c: Cmd,
+) -> usize
+    requires { ⌜ (c .op ≡ key → (m < 32)) × ((length (now ks) ≡ 32) × ((length (now kl) ≡ 32) × (length (now km) ≡ 32))) ⌝ }
     ensures { λ r. ⌜ r ≡ cond (eqb (c .op) key) (m + 1) m ⌝ }
     ensures { λ r. ⌜ now (ks .exit) ≡ cond (eqb (c .op) key) (set (now (ks .entry)) m (c .start)) (now (ks .entry)) ⌝ }
     ensures { λ r. ⌜ now (kl .exit) ≡ cond (eqb (c .op) key) (set (now (kl .entry)) m (c .len)) (now (kl .entry)) ⌝ }
+    ensures { λ r. ⌜ now (km .exit) ≡ cond (eqb (c .op) key) (set (now (km .entry)) m (digestFrom 0 (textOf (now (text .entry)) c))) (now (km .entry)) ⌝ }
 {
     let op = c.op;
     if op != KEY {
         return m;
     }
+    let s = string_of(text, c);
+    let mark = digest(s);
     ks[m] = c.start;
     kl[m] = c.len;
+    km[m] = mark;
     m + 1
-}
-
-// The path's start or length: that of a BEGIN.
-fn pick(op: u8, new: usize, old: usize) -> usize
-    ensures { λ r. ⌜ r ≡ cond (eqb op begin) new old ⌝ }
-{
-    if op == BEGIN {
-        return new;
-    }
-    old
 }
 
 enum Checked {
@@ -590,25 +567,28 @@ enum Checked {
     Closed(usize, usize, usize),
 }
 
-// One record's commands, from its BEGIN on, which stands at base. Before it stand n records, with the starts and lengths of their paths.
+// One record's commands, from its BEGIN on, which stands at base. Before it stand n records, with the starts, lengths and digests of their paths.
 fn check_record(
+    tame: bool,
     part: &[u8],
     base: usize,
     text: &[u8],
     starts: &[usize],
     lens: &[usize],
+    marks: &[u8],
     n: usize,
 ) -> Checked
     requires { ⌜ (0 < length (now part)) × (base + length (now part) ≤ 32768) ⌝ }
-    requires { ⌜ Table (now text) (now starts) (now lens) n ⌝ }
+    requires { ⌜ (tame ≡ true → tameText (now text) ≡ true) ⌝ }
+    requires { ⌜ Table (now text) (now starts) (now lens) n × Marked (now text) (now starts) (now lens) (now marks) n ⌝ }
     ensures { λ r. ⌜ CheckedAs (now (part .entry)) base (now (text .entry)) (now (starts .entry)) (now (lens .entry)) n r ⌝ }
 {
-    let mut st = State::new();
+    let mut counts = [0u8; 39];
+    let mut last: u8 = 0;
     let mut ks = [0usize; 32];
     let mut kl = [0usize; 32];
+    let mut km = [0u8; 32];
     let mut m = 0;
-    let mut start = 0;
-    let mut len = 0;
     let mut cursor = Cursor { at: 0 };
     loop {
         let place = base + cursor.at;
@@ -616,20 +596,35 @@ fn check_record(
             Step::End => return Checked::Refused(2, place),
             Step::Broken => return Checked::Refused(2, place),
             Step::Command(c, next) => {
-                let f = fault_of(text, st, c, &ks, &kl, m, starts, lens, n);
+                let k = slot_of(c);
+                let f = fault_of(
+                    tame,
+                    text,
+                    &counts,
+                    last,
+                    c,
+                    k,
+                    &ks,
+                    &kl,
+                    &km,
+                    m,
+                    starts,
+                    lens,
+                    marks,
+                    n,
+                );
                 if f != 0 {
                     return Checked::Refused(f, place);
                 }
                 let op = c.op;
                 if op == END {
                     let end = base + next.at;
+                    let start = word_at(part, 1);
+                    let len = word_at(part, 3);
                     return Checked::Closed(end, start, len);
                 }
-                m = put_key(&mut ks, &mut kl, m, c);
-                start = pick(op, c.start, start);
-                len = pick(op, c.len, len);
-                let k = slot_of(c);
-                st = push(st, c, k);
+                m = put_key(text, &mut ks, &mut kl, &mut km, m, c);
+                last = push(&mut counts, c, k);
                 cursor = next;
             }
         }
@@ -643,8 +638,58 @@ pub enum Judged {
     Yes(usize),
 }
 
-// The verdict on a book, over tables that are slices: a row for each record that a book may have.
-pub fn check_records(
+// Whether the text is known to be tame. A text that is long beside the commands is not looked at as a whole.
+fn is_known_tame(commands: usize, text: &[u8]) -> bool
+    ensures { λ r. ⌜ (r ≡ true → tameText (now (text .entry)) ≡ true) ⌝ }
+{
+    if commands < text.len() / 8 {
+        return false;
+    }
+    is_tame(text)
+}
+
+// Each record in turn. The tables have a row for each record that a book may have.
+fn check_records(
+    commands: &[u8],
+    text: &[u8],
+    begins: &mut [usize],
+    starts: &mut [usize],
+    lens: &mut [usize],
+    marks: &mut [u8],
+) -> Judged
+    requires { ⌜ (length (now begins) ≡ 64) × ((length (now starts) ≡ 64) × ((length (now lens) ≡ 64) × (length (now marks) ≡ 64))) ⌝ }
+    ensures { λ r. ⌜ JudgedAs (now (commands .entry)) (now (text .entry)) (now (begins .exit)) (now (starts .exit)) (now (lens .exit)) r ⌝ }
+{
+    if MOST_COMMANDS < commands.len() {
+        return Judged::No(1, 0);
+    }
+    if MOST_TEXT < text.len() {
+        return Judged::No(1, 0);
+    }
+    let tame = is_known_tame(commands.len(), text);
+    let mut n = 0;
+    let mut at = 0;
+    while at < commands.len() {
+        let part = from(commands, at);
+        match check_record(tame, part, at, text, starts, lens, marks, n) {
+            Checked::Refused(k, p) => return Judged::No(k, p),
+            Checked::Closed(to, start, len) => {
+                let path = piece(text, start, len);
+                let mark = digest(path);
+                begins[n] = at;
+                starts[n] = start;
+                lens[n] = len;
+                marks[n] = mark;
+                n += 1;
+                at = to;
+            }
+        }
+    }
+    Judged::Yes(n)
+}
+
+// The verdict on a book, over tables that are lent as slices.
+pub fn check_tables(
     commands: &[u8],
     text: &[u8],
     begins: &mut [usize],
@@ -654,28 +699,8 @@ pub fn check_records(
     requires { ⌜ (length (now begins) ≡ 64) × ((length (now starts) ≡ 64) × (length (now lens) ≡ 64)) ⌝ }
     ensures { λ r. ⌜ JudgedAs (now (commands .entry)) (now (text .entry)) (now (begins .exit)) (now (starts .exit)) (now (lens .exit)) r ⌝ }
 {
-    if MOST_COMMANDS < commands.len() {
-        return Judged::No(1, 0);
-    }
-    if MOST_TEXT < text.len() {
-        return Judged::No(1, 0);
-    }
-    let mut n = 0;
-    let mut at = 0;
-    while at < commands.len() {
-        let part = from(commands, at);
-        match check_record(part, at, text, starts, lens, n) {
-            Checked::Refused(k, p) => return Judged::No(k, p),
-            Checked::Closed(to, start, len) => {
-                begins[n] = at;
-                starts[n] = start;
-                lens[n] = len;
-                n += 1;
-                at = to;
-            }
-        }
-    }
-    Judged::Yes(n)
+    let mut marks = [0u8; 64];
+    check_records(commands, text, begins, starts, lens, &mut marks)
 }
 
 // The verdict on a book: how many records it has, or the first refusal. Of an accepted book the tables are an index: begins[i] is the offset
@@ -689,5 +714,5 @@ pub fn check_book(
 ) -> Judged
     ensures { λ r. ⌜ JudgedAs (now (commands .entry)) (now (text .entry)) (now (begins .exit)) (now (starts .exit)) (now (lens .exit)) r ⌝ }
 {
-    check_records(commands, text, begins, starts, lens)
+    check_tables(commands, text, begins, starts, lens)
 }

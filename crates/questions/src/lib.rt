@@ -1,6 +1,6 @@
 // The questions, as C functions on numbers and byte slices.
 use book::Judged;
-use book::check_records;
+use book::check_tables;
 use listing::put_listing;
 use load::Whole;
 use load::load_record;
@@ -63,7 +63,7 @@ fn give(first: usize, second: usize) -> Numbers
     }
 }
 
-// The listing of a row's config, where it fits the output.
+// The listing of a row's config, where it fits the output. It is counted over an output of no room first.
 fn write_listing(
     commands: &[u8],
     text: &[u8],
@@ -71,13 +71,13 @@ fn write_listing(
     row: &[u8],
     base: &[u8],
     merges: usize,
+    none: &mut [u8],
     out: &mut [u8],
 ) -> Numbers
-    requires { ⌜ Records (now commands) (now text) (now begins) × (Row (recordsOf (now commands) (now text)) (now row) × ((now base ≡ (siteOf (recordsOf (now commands) (now text)) (now row)) .config .base) × (length (now base) ≤ 1600))) ⌝ }
+    requires { ⌜ (length (now none) ≡ 0) × (Records (now commands) (now text) (now begins) × (Row (recordsOf (now commands) (now text)) (now row) × ((now base ≡ (siteOf (recordsOf (now commands) (now text)) (now row)) .config .base) × (length (now base) ≤ 1600)))) ⌝ }
     ensures { λ r. ⌜ Told (fit (length (now (out .entry))) (buildReply (recordsOf (now (commands .entry)) (now (text .entry))) (siteOf (recordsOf (now (commands .entry)) (now (text .entry))) (now (row .entry))) merges)) r (now (out .entry)) (now (out .exit)) ⌝ }
 {
-    let mut none = [0u8; 0];
-    let need = put_listing(commands, text, begins, row, base, &mut none, 0);
+    let need = put_listing(commands, text, begins, row, base, none, 0);
     if out.len() < need {
         return refuse(13, need);
     }
@@ -153,7 +153,8 @@ fn build_record(
         Opening::Refused(k, p) => return refuse(k, p),
         Opening::Ready(merges, len) => {
             let built = upto(&base, len);
-            return write_listing(commands, text, begins, &row, built, merges, out);
+            let mut none = [0u8; 0];
+            return write_listing(commands, text, begins, &row, built, merges, &mut none, out);
         }
     }
 }
@@ -194,13 +195,13 @@ pub extern "C" fn tsconfig_build(
     let mut begins = [0usize; 64];
     let mut starts = [0usize; 64];
     let mut lens = [0usize; 64];
-    match check_records(commands, text, &mut begins, &mut starts, &mut lens) {
+    match check_tables(commands, text, &mut begins, &mut starts, &mut lens) {
         Judged::No(k, p) => return refuse(k, p),
         Judged::Yes(n) => return build(commands, text, &begins, &starts, &lens, n, path, out),
     }
 }
 
-// The candidates of a row's config, where they fit the output.
+// The candidates of a row's config, where they fit the output. They are counted over an output of no room first.
 fn write_candidates(
     commands: &[u8],
     text: &[u8],
@@ -208,13 +209,13 @@ fn write_candidates(
     row: &[u8],
     base: &[u8],
     specifier: &[u8],
+    none: &mut [u8],
     out: &mut [u8],
 ) -> Numbers
-    requires { ⌜ Records (now commands) (now text) (now begins) × (Row (recordsOf (now commands) (now text)) (now row) × ((now base ≡ (siteOf (recordsOf (now commands) (now text)) (now row)) .config .base) × ((length (now base) ≤ 1600) × (length (now specifier) ≤ 512)))) ⌝ }
+    requires { ⌜ (length (now none) ≡ 0) × (Records (now commands) (now text) (now begins) × (Row (recordsOf (now commands) (now text)) (now row) × ((now base ≡ (siteOf (recordsOf (now commands) (now text)) (now row)) .config .base) × ((length (now base) ≤ 1600) × (length (now specifier) ≤ 512))))) ⌝ }
     ensures { λ r. ⌜ Told (listed (length (now (out .entry))) (candidatesBy ((siteOf (recordsOf (now (commands .entry)) (now (text .entry))) (now (row .entry))) .config) (now (specifier .entry)))) r (now (out .entry)) (now (out .exit)) ⌝ }
 {
-    let mut none = [0u8; 0];
-    let counted = put_candidates(commands, text, begins, row, base, specifier, &mut none, 0);
+    let counted = put_candidates(commands, text, begins, row, base, specifier, none, 0);
     let need = counted.at;
     if out.len() < need {
         return refuse(13, need);
@@ -262,7 +263,17 @@ fn candidates_record(
         Opening::Refused(k, p) => return refuse(k, p),
         Opening::Ready(_, len) => {
             let built = upto(&base, len);
-            return write_candidates(commands, text, begins, &row, built, specifier, out);
+            let mut none = [0u8; 0];
+            return write_candidates(
+                commands,
+                text,
+                begins,
+                &row,
+                built,
+                specifier,
+                &mut none,
+                out,
+            );
         }
     }
 }
@@ -318,7 +329,7 @@ pub extern "C" fn tsconfig_candidates(
     let mut begins = [0usize; 64];
     let mut starts = [0usize; 64];
     let mut lens = [0usize; 64];
-    match check_records(commands, text, &mut begins, &mut starts, &mut lens) {
+    match check_tables(commands, text, &mut begins, &mut starts, &mut lens) {
         Judged::No(k, p) => return refuse(k, p),
         Judged::Yes(n) => return candidates(
             commands,
@@ -365,7 +376,7 @@ pub extern "C" fn tsconfig_owner(commands: &[u8], text: &[u8], path: &[u8]) -> N
     let mut begins = [0usize; 64];
     let mut starts = [0usize; 64];
     let mut lens = [0usize; 64];
-    match check_records(commands, text, &mut begins, &mut starts, &mut lens) {
+    match check_tables(commands, text, &mut begins, &mut starts, &mut lens) {
         Judged::No(k, p) => return refuse(k, p),
         Judged::Yes(n) => return owner(commands, text, &begins, &starts, &lens, n, path),
     }

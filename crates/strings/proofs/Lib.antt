@@ -4,3 +4,4 @@ pub mod Stars
 pub mod Names
 pub mod Rules
 pub mod Cases
+pub mod Tame

@@ -145,6 +145,11 @@ module _ (s : Text) (i bad : ℕ) (inv : Gathered (behind s) i bad) where
   ends-step l a b c f d ea eb ec h g =
       gather-step (behind s) i bad f inv (rw (g, ea, eb, ec, d, add-one, drop-cons s i 0 h))
 
+  -- no slash
+  pub ends-pass : i < length s → (getD s i 0 ≡ slash → ⊥) → Gathered (behind s) (i + 1) bad
+  unfolding namesBehind
+  ends-pass h n = inv ∙ rw (add-one, drop-cons s i 0 h, ne-eqb (getD s i 0) slash n) refl
+
   pub ends-all : length s ≤ i → eqb bad 0 ≡ namesBehind s
   unfolding namesBehind
   ends-all h = gather-end (behind s) i bad inv (rw (drop-of-length-le s h))

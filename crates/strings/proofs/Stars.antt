@@ -1,7 +1,7 @@
 -- The rule of adjacent stars by three bytes in a row is the rule by components. Assumes nothing.
 use mathlib.Core.Path.{_≡_, refl, sym, ap, _∙_}
 use mathlib.Core.List.{List, [], _∷_}
-use mathlib.Core.Bool.{Bool, true, false, not, _&&_, _||_, cond, and-assoc}
+use mathlib.Core.Bool.{Bool, true, false, not, _&&_, _||_, and-assoc}
 use Prim.Native.Nat.{ℕ, suc, _+_, _≤_, _<_}
 use native.Mathlib.Numerals.{add-one}
 use native.Mathlib.Omega.{arith}
@@ -9,7 +9,7 @@ use lib.ListN.{length, getD, drop, length-drop}
 use lib.Seq.{drop-cons, getD-drop}
 use lib.Dec.{eqb}
 use lib.Bits.{bitOr, bitAnd, bitXor}
-use borrow.Author.Tests.{eqb-true}
+use borrow.Author.Tests.{eqb-true, eq-eqb, ne-eqb}
 use Rattle.text.specs.Bytes.{Text, bytes, slash, star}
 use Rattle.text.specs.Text.{prefixOf, sameText, eachOf}
 use Rattle.path.specs.Path.{split, onFirst}
@@ -171,6 +171,28 @@ module _ (s t u : Text) (d : t ≡ drop 1 s) (e : u ≡ drop 2 s) (i bad : ℕ) 
 
   pub apart-end : length u ≤ i → eqb bad 0 ≡ starsApart s
   apart-end h = gather-end (apart s) i bad inv (apart-short (drop i s) (omega (arith, h, ap length e, length-drop 2 s, length-drop i s)))
+
+-- The loop that looks at stars alone
+
+pub apart-last : (s : Text) (i : ℕ) → length s ≤ i + 2 → starsApart (drop i s) ≡ true
+apart-last s i h = apart-short (drop i s) (omega (arith, h, length-drop i s))
+
+module _ (s : Text) (i : ℕ) (h : i + 2 < length s) where
+  apart-next : starsApart (drop i s) ≡ not (crowded (getD s i 0) (getD s (i + 1) 0) (getD s (i + 2) 0)) && starsApart (drop (i + 1) s)
+  unfolding starsApart clear
+  apart-next =
+      let n : i + 2 ≡ suc (suc i) = omega arith in
+      rw (n, add-one, drop-cons s i 0 (omega arith), drop-cons s (suc i) 0 (omega arith), drop-cons s (suc (suc i)) 0 (omega arith)) refl
+
+  pub apart-pass : (getD s (i + 1) 0 ≡ star → ⊥) → starsApart (drop i s) ≡ starsApart (drop (i + 1) s)
+  apart-pass n = apart-next ∙ rw (ne-eqb (getD s (i + 1) 0) star n) refl
+
+  module _ (f : ℕ) (g : eqb f 0 ≡ not (crowded (getD s i 0) (getD s (i + 1) 0) (getD s (i + 2) 0))) where
+    pub apart-fine : f ≡ 0 → starsApart (drop i s) ≡ starsApart (drop (i + 1) s)
+    apart-fine z = apart-next ∙ rw (← g, eq-eqb f 0 z) refl
+
+    pub apart-bad : (f ≡ 0 → ⊥) → starsApart (drop i s) ≡ false
+    apart-bad z = apart-next ∙ rw (← g, ne-eqb f 0 z) refl
 
 -- the flag of three bytes
 pub crowd-flag : (x y z : ℕ) (a b c d e : ℕ) → a ≡ flag (eqb y star) → b ≡ flag (eqb x star) → c ≡ flag (eqb z star) → d ≡ flag (eqb x slash) → e ≡ flag (eqb z slash) → eqb (bitAnd a (bitAnd (bitOr b c) (bitXor 1 (bitOr d e)))) 0 ≡ not (crowded x y z)

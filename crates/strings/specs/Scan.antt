@@ -4,8 +4,11 @@ use Prim.Native.Nat.{ℕ}
 use mathlib.Core.List.{List, [], _∷_}
 use mathlib.Core.Bool.{Bool, true, false, not, _&&_, _||_}
 use lib.Dec.{eqb}
+use lib.Bits.{bitXor}
 use lib.ListN.{getD}
-use Rattle.text.specs.Bytes.{Text, slash, dot, star}
+use Rattle.text.specs.Bytes.{Text, bytes, slash, dot, star}
+use Rattle.text.specs.Text.{eachOf}
+use Rattle.strings.specs.Strings.{noneOf, plainByte}
 
 -- a verdict as a byte
 abbrev pub flag : Bool → ℕ
@@ -35,3 +38,12 @@ nameless x y z = eqb x slash || (eqb x dot && (eqb y slash || (eqb y dot && eqb 
 unfoldable pub namesBehind : Text → Bool
 namesBehind [] = true
 namesBehind (x ∷ s) = not (eqb x slash && nameless (getD s 0 slash) (getD s 1 slash) (getD s 2 slash)) && namesBehind s
+
+-- a string may have each byte of s, and none is one of `{ } [ ] !`
+unfoldable pub tameText : Text → Bool
+tameText s = eachOf plainByte s && eachOf (noneOf (bytes "{}[]!")) s
+
+-- the exclusive or of the bytes of s, and of what stands before
+unfoldable pub digestFrom : ℕ → Text → ℕ
+digestFrom mix [] = mix
+digestFrom mix (x ∷ s) = digestFrom (bitXor mix x) s

@@ -9,7 +9,7 @@ use text::from;
 use text::has_config_dir;
 ghost use mathlib.Core.Path.{_≡_};
 ghost use mathlib.Core.List.{[], _∷_};
-ghost use mathlib.Core.Bool.{not, _&&_};
+ghost use mathlib.Core.Bool.{true, not, _&&_};
 ghost use Prim.Native.Nat.{_≤_};
 ghost use lib.ListN.{length, getD};
 ghost use lib.Dec.{eqb};
@@ -17,10 +17,13 @@ ghost use Rattle.text.specs.Bytes.{bytes, slash};
 ghost use Rattle.text.specs.Text.{prefixOf, eachOf};
 ghost use Rattle.path.specs.Path.{normal};
 ghost use Rattle.strings.specs.Strings.{noneOf, plainByte, stringRule, recordPath, leadRule, patternText, patternRule, covers, askedPath};
-ghost use Rattle.strings.specs.Scan.{flag, crowded, starsApart, nameless, namesBehind};
+ghost use Rattle.strings.specs.Scan.{flag, crowded, starsApart, nameless, namesBehind, tameText, digestFrom};
 
 // The most bytes that a string has.
 const LONGEST: usize = 512;
+
+// Below this length a text is looked at byte by byte where most bytes need but one test.
+const SHORT: usize = 48;
 
 const LOWEST: u8 = 0x20;
 
@@ -153,13 +156,17 @@ fn byte_or_slash(s: &[u8], k: usize) -> u8
     SLASH
 }
 
-// Whether a name stands behind each slash of s, byte by byte: for the few bytes at an end.
+// Whether a name stands behind each slash of s, slash by slash: for the few bytes at an end.
 fn ends_in_names(s: &[u8]) -> bool
     ensures { λ r. ⌜ r ≡ namesBehind (now (s .entry)) ⌝ }
 {
     let mut bad: u8 = 0;
     let mut i = 0;
     while i < s.len() {
+        if s[i] != SLASH {
+            i += 1;
+            continue;
+        }
         let rest = from(s, i + 1);
         bad = bad
             | no_name(
@@ -243,8 +250,26 @@ fn crowd(x: u8, y: u8, z: u8) -> u8
     star_here & ((star_before | star_after) & (1 ^ (slash_before | slash_after)))
 }
 
-// Whether two adjacent stars are a whole component wherever they stand in s: each three bytes in a row are looked at.
-fn has_stars_apart(s: &[u8]) -> bool
+// Whether two adjacent stars are a whole component wherever they stand in s, star by star: for a short text.
+fn has_few_apart(s: &[u8]) -> bool
+    ensures { λ r. ⌜ r ≡ starsApart (now (s .entry)) ⌝ }
+{
+    let mut i = 0;
+    while i + 2 < s.len() {
+        if s[i + 1] != STAR {
+            i += 1;
+            continue;
+        }
+        if crowd(s[i], s[i + 1], s[i + 2]) != 0 {
+            return false;
+        }
+        i += 1;
+    }
+    true
+}
+
+// The same for a long text: each three bytes in a row are looked at.
+fn has_many_apart(s: &[u8]) -> bool
     ensures { λ r. ⌜ r ≡ starsApart (now (s .entry)) ⌝ }
 {
     let second = from(s, 1);
@@ -256,6 +281,16 @@ fn has_stars_apart(s: &[u8]) -> bool
         i += 1;
     }
     bad == 0
+}
+
+// Whether two adjacent stars are a whole component wherever they stand in s.
+fn has_stars_apart(s: &[u8]) -> bool
+    ensures { λ r. ⌜ r ≡ starsApart (now (s .entry)) ⌝ }
+{
+    if s.len() < SHORT {
+        return has_few_apart(s);
+    }
+    has_many_apart(s)
 }
 
 // Whether s, which a leading `${configDir}` is no part of, may be an item of include or exclude.
@@ -276,6 +311,66 @@ pub fn is_pattern(s: &[u8]) -> bool
         return is_pattern_text(from(s, CONFIG_DIR_LEN));
     }
     is_pattern_text(s)
+}
+
+// Whether s, which has none of `{ } [ ] !`, may be the path of a record.
+fn is_bare_path(s: &[u8]) -> bool
+    requires { ⌜ eachOf (noneOf (bytes "{}[]!")) (now s) ≡ true ⌝ }
+    ensures { λ r. ⌜ r ≡ recordPath (now (s .entry)) ⌝ }
+{
+    if s.len() <= 1 {
+        return false;
+    }
+    if !lacks(s, STAR, QUESTION, HASH) {
+        return false;
+    }
+    is_normal(s)
+}
+
+// The rules of the strings of one text. Where the text is tame, as most are, each byte that no string or no pattern may have is known to be
+// missing, and only the rest is tested.
+
+// Whether s is tame: a string may have each byte, and none is one of `{ } [ ] !`.
+pub fn is_tame(s: &[u8]) -> bool
+    ensures { λ r. ⌜ r ≡ tameText (now (s .entry)) ⌝ }
+{
+    if !is_plain(s) {
+        return false;
+    }
+    lacks_brackets(s)
+}
+
+// Whether s is a string.
+pub fn is_string_of(tame: bool, s: &[u8]) -> bool
+    requires { ⌜ (tame ≡ true → tameText (now s) ≡ true) ⌝ }
+    ensures { λ r. ⌜ r ≡ stringRule (now (s .entry)) ⌝ }
+{
+    if tame {
+        return s.len() <= LONGEST;
+    }
+    is_string(s)
+}
+
+// Whether s may be the path of a record.
+pub fn is_record_path_of(tame: bool, s: &[u8]) -> bool
+    requires { ⌜ (tame ≡ true → tameText (now s) ≡ true) ⌝ }
+    ensures { λ r. ⌜ r ≡ recordPath (now (s .entry)) ⌝ }
+{
+    if tame {
+        return is_bare_path(s);
+    }
+    is_record_path(s)
+}
+
+// Whether s may be an item of include or exclude.
+pub fn is_pattern_of(tame: bool, s: &[u8]) -> bool
+    requires { ⌜ (tame ≡ true → tameText (now s) ≡ true) ⌝ }
+    ensures { λ r. ⌜ r ≡ patternRule (now (s .entry)) ⌝ }
+{
+    if tame {
+        return has_stars_apart(s);
+    }
+    is_pattern(s)
 }
 
 // Whether q begins with p, which is not longer.
@@ -307,6 +402,19 @@ pub fn covers(p: &[u8], q: &[u8]) -> bool
         return false;
     }
     begins(q, p)
+}
+
+// A byte that is the same for the same text: texts with another digest are not compared.
+pub fn digest(s: &[u8]) -> u8
+    ensures { λ r. ⌜ r ≡ digestFrom 0 (now (s .entry)) ⌝ }
+{
+    let mut mix: u8 = 0;
+    let mut i = 0;
+    while i < s.len() {
+        mix = mix ^ s[i];
+        i += 1;
+    }
+    mix
 }
 
 // Whether s may be asked about.

@@ -1,25 +1,21 @@
-use mathlib.Core.Path.{refl}
+use mathlib.Core.Path.{refl, sym}
 use Prim.Native.Nat.{_-_}
 use lib.ListN.{length}
-use Rattle.book.proofs.Turns.{Sofar, sofar-none, turn-broken, turn-end, turn-fault, turn-closed, turn-on, turn-less, turn-place, byte-known, slot-small, slot-room, key-room}
+use Rattle.book.proofs.Turns.{Sofar, sofar-none, turn-broken, turn-end, turn-fault, turn-long, turn-closed, turn-on, turn-less, turn-place, byte-known, slot-small, slot-room, key-room}
 use native.Mathlib.Omega.{arith}
 use borrow.Author.Needs.{needs}
 use Rattle.book.proofs.check_record.Statement.{statement}
 use Rattle.book.proofs.check_record.Tie as tie
 
 abbrev Inv-loop : tie.InvT-loop
-Inv-loop part base text starts lens n st₀ ks₀ kl₀ m₀ start₀ len₀ cursor₀ st ks kl m start len cursor =
-    Sofar part base text starts lens n st ks kl m start len (cursor .at)
+Inv-loop tame part base text starts lens marks n counts₀ last₀ ks₀ kl₀ km₀ m₀ cursor₀ counts last ks kl km m cursor =
+    Sofar part base text starts lens n counts last ks kl km m (cursor .at)
 
 abbrev μ-loop : tie.MeasureT-loop
-μ-loop part base text starts lens n st₀ ks₀ kl₀ m₀ start₀ len₀ cursor₀ st ks kl m start len cursor =
-    length part - cursor .at
-
-new-requires : tie.Need-new-requires Inv-loop μ-loop
-new-requires c κs = search needs
+μ-loop tame part base text starts lens marks n counts₀ last₀ ks₀ kl₀ km₀ m₀ cursor₀ counts last ks kl km m cursor = length part - cursor .at
 
 loop-holds : tie.Need-loop-holds Inv-loop μ-loop
-loop-holds c = sofar-none _ _ _ _ _ _ _ _ _ (c .new .ensures .0) (c .new .ensures .1) refl refl
+loop-holds c = sofar-none _ _ _ _ _ _ _ _ _ _ _ refl refl refl refl refl
 
 add-place : tie.Need-add-place Inv-loop μ-loop
 add-place c = omega (arith, c .before .before .before .before .before .before .before .pre .0 .1, c .before .loop .inv .place)
@@ -42,23 +38,38 @@ returns-2 c = turn-broken _ _ _ _ _ _ (c .before .before .before .before .loop .
 enum-known-c : tie.Need-enum-known-c Inv-loop μ-loop
 enum-known-c c = search needs
 
+slot-of-requires : tie.Need-slot-of-requires Inv-loop μ-loop
+slot-of-requires c κs = byte-known _ _ _ _ _ _ (c .before .before .before .before .before .loop .inv) (c .before .before .before .step .ensures) (c .before .c .given .1)
+
 slice-aggregate-fault-of : tie.Need-slice-aggregate-fault-of Inv-loop μ-loop
 slice-aggregate-fault-of c = search needs
 
 slice-aggregate-fault-of-2 : tie.Need-slice-aggregate-fault-of-2 Inv-loop μ-loop
 slice-aggregate-fault-of-2 c = search needs
 
+slice-aggregate-fault-of-3 : tie.Need-slice-aggregate-fault-of-3 Inv-loop μ-loop
+slice-aggregate-fault-of-3 c = search needs
+
+slice-aggregate-fault-of-4 : tie.Need-slice-aggregate-fault-of-4 Inv-loop μ-loop
+slice-aggregate-fault-of-4 c = search needs
+
 fault-of-requires : tie.Need-fault-of-requires Inv-loop μ-loop
-fault-of-requires c κs = (byte-known _ _ _ _ _ _ (c .before .before .before .before .before .before .before .loop .inv) (c .before .before .before .before .before .step .ensures) (c .before .before .before .c .given .1), (c .before .before .before .before .before .before .before .loop .inv .table, c .before .before .before .before .before .before .before .before .before .before .before .before .before .pre .1))
+fault-of-requires c κs = ((byte-known _ _ _ _ _ _ (c .before .before .before .before .before .before .before .before .before .before .loop .inv) (c .before .before .before .before .before .before .before .before .step .ensures) (c .before .before .before .before .before .before .c .given .1), (c .before .before .before .before .slot-of .ensures, c .before .before .before .before .before .before .before .before .before .before .loop .inv .agrees .size)), (c .before .before .before .before .before .before .before .before .before .before .before .before .before .before .before .before .pre .1 .0, ((c .before .before .before .before .before .before .before .before .before .before .loop .inv .table, c .before .before .before .before .before .before .before .before .before .before .loop .inv .marks), c .before .before .before .before .before .before .before .before .before .before .before .before .before .before .before .before .pre .1 .1)))
 
 returns-3 : tie.Need-returns-3 Inv-loop μ-loop
-returns-3 c = turn-fault _ _ _ _ _ _ (c .before .before .before .before .before .before .before .before .before .loop .inv) (c .before .before .before .before .before .before .before .step .ensures) (c .before .before .before .before .before .c .given .1) (c .before .fault-of .ensures) (c .if1 .taken)
+returns-3 c = turn-fault _ _ _ _ _ _ (c .before .before .before .before .before .before .before .before .before .before .before .before .loop .inv) (c .before .before .before .before .before .before .before .before .before .before .step .ensures) (c .before .before .before .before .before .before .before .before .c .given .1) (c .before .fault-of .ensures) (c .if1 .taken)
 
 add-end : tie.Need-add-end Inv-loop μ-loop
-add-end c = omega (arith, c .before .before .before .before .before .before .before .before .before .before .before .before .before .before .before .before .before .pre .0 .1, turn-place _ _ _ _ _ _ (c .before .before .before .before .before .before .before .before .before .before .before .loop .inv) (c .before .before .before .before .before .before .before .before .before .step .ensures) (c .before .before .before .before .before .before .before .c .given .1))
+add-end c = omega (arith, c .before .before .before .before .before .before .before .before .before .before .before .before .before .before .before .before .before .before .before .before .pre .0 .1, turn-place _ _ _ _ _ _ (c .before .before .before .before .before .before .before .before .before .before .before .before .before .before .loop .inv) (c .before .before .before .before .before .before .before .before .before .before .before .before .step .ensures) (c .before .before .before .before .before .before .before .before .before .before .c .given .1))
+
+word-at-requires : tie.Need-word-at-requires Inv-loop μ-loop
+word-at-requires c κs = omega (arith, turn-long _ _ _ _ _ _ (c .before .before .before .before .before .before .before .before .before .before .before .before .before .before .loop .inv) (c .before .before .before .before .before .before .before .before .before .before .before .before .step .ensures) (c .before .before .before .before .before .before .before .before .before .before .c .given .1) (c .before .before .before .fault-of .ensures) (c .before .before .if1 .left) (c .before .if2 .taken))
+
+word-at-requires-2 : tie.Need-word-at-requires-2 Inv-loop μ-loop
+word-at-requires-2 c κs = omega (arith, turn-long _ _ _ _ _ _ (c .before .before .before .before .before .before .before .before .before .before .before .before .before .before .before .loop .inv) (c .before .before .before .before .before .before .before .before .before .before .before .before .before .step .ensures) (c .before .before .before .before .before .before .before .before .before .before .before .c .given .1) (c .before .before .before .before .fault-of .ensures) (c .before .before .before .if1 .left) (c .before .before .if2 .taken))
 
 returns-4 : tie.Need-returns-4 Inv-loop μ-loop
-returns-4 c = turn-closed _ _ _ _ _ _ (c .before .before .before .before .before .before .before .before .before .before .before .loop .inv) (c .before .before .before .before .before .before .before .before .before .step .ensures) (c .before .before .before .before .before .before .before .c .given .1) (c .before .before .before .fault-of .ensures) (c .before .before .if1 .left) (c .before .if2 .taken)
+returns-4 c = turn-closed _ _ _ _ _ _ (c .before .before .before .before .before .before .before .before .before .before .before .before .before .before .before .before .loop .inv) (c .before .before .before .before .before .before .before .before .before .before .before .before .before .before .step .ensures) (c .before .before .before .before .before .before .before .before .before .before .before .before .c .given .1) (c .before .before .before .before .before .fault-of .ensures) (c .before .before .before .before .if1 .left) (c .before .before .before .if2 .taken) _ _ (c .before .word-at .ensures) (c .word-at2 .ensures)
 
 slice-aggregate-put-key : tie.Need-slice-aggregate-put-key Inv-loop μ-loop
 slice-aggregate-put-key c = search needs
@@ -66,26 +77,23 @@ slice-aggregate-put-key c = search needs
 slice-aggregate-put-key-2 : tie.Need-slice-aggregate-put-key-2 Inv-loop μ-loop
 slice-aggregate-put-key-2 c = search needs
 
+slice-aggregate-put-key-3 : tie.Need-slice-aggregate-put-key-3 Inv-loop μ-loop
+slice-aggregate-put-key-3 c = search needs
+
 put-key-requires : tie.Need-put-key-requires Inv-loop μ-loop
-put-key-requires c κs = (key-room _ _ _ _ _ _ (c .before .before .before .before .before .before .before .before .before .before .before .before .loop .inv) (c .before .before .before .before .before .before .before .before .before .before .step .ensures) (c .before .before .before .before .before .before .before .before .c .given .1) (c .before .before .before .before .fault-of .ensures) (c .before .before .before .if1 .left), c .before .before .before .before .before .before .before .before .before .before .before .before .loop .inv .rows)
+put-key-requires c κs = (key-room _ _ _ _ _ _ (c .before .before .before .before .before .before .before .before .before .before .before .before .before .before .before .before .loop .inv) (c .before .before .before .before .before .before .before .before .before .before .before .before .before .before .step .ensures) (c .before .before .before .before .before .before .before .before .before .before .before .before .c .given .1) (c .before .before .before .before .before .fault-of .ensures) (c .before .before .before .before .if1 .left), c .before .before .before .before .before .before .before .before .before .before .before .before .before .before .before .before .loop .inv .rows)
 
-pick-requires : tie.Need-pick-requires Inv-loop μ-loop
-pick-requires c κs = search needs
-
-pick-requires-2 : tie.Need-pick-requires-2 Inv-loop μ-loop
-pick-requires-2 c κs = search needs
-
-slot-of-requires : tie.Need-slot-of-requires Inv-loop μ-loop
-slot-of-requires c κs = byte-known _ _ _ _ _ _ (c .before .before .before .before .before .before .before .before .before .before .before .before .before .before .before .before .before .loop .inv) (c .before .before .before .before .before .before .before .before .before .before .before .before .before .before .before .step .ensures) (c .before .before .before .before .before .before .before .before .before .before .before .before .before .c .given .1)
+slice-aggregate-push : tie.Need-slice-aggregate-push Inv-loop μ-loop
+slice-aggregate-push c = sym (c .before .before .before .before .before .before .before .before .before .before .before .before .before .before .before .before .before .before .before .before .before .loop .inv .agrees .size)
 
 push-requires : tie.Need-push-requires Inv-loop μ-loop
-push-requires c κs = (slot-small _ _ _ _ _ _ (c .before .before .before .before .before .before .before .before .before .before .before .before .before .before .before .before .before .before .loop .inv) (c .before .before .before .before .before .before .before .before .before .before .before .before .before .before .before .before .step .ensures) (c .before .before .before .before .before .before .before .before .before .before .before .before .before .before .c .given .1) (c .before .before .before .before .before .before .before .before .before .before .fault-of .ensures) (c .before .before .before .before .before .before .before .before .before .if1 .left) (c .slot-of .ensures), slot-room _ _ _ _ _ _ (c .before .before .before .before .before .before .before .before .before .before .before .before .before .before .before .before .before .before .loop .inv) (c .before .before .before .before .before .before .before .before .before .before .before .before .before .before .before .before .step .ensures) (c .before .before .before .before .before .before .before .before .before .before .before .before .before .before .c .given .1) (c .before .before .before .before .before .before .before .before .before .before .fault-of .ensures) (c .before .before .before .before .before .before .before .before .before .if1 .left) (c .slot-of .ensures))
+push-requires c κs = (slot-small _ _ _ _ _ _ (c .before .before .before .before .before .before .before .before .before .before .before .before .before .before .before .before .before .before .before .before .before .loop .inv) (c .before .before .before .before .before .before .before .before .before .before .before .before .before .before .before .before .before .before .before .step .ensures) (c .before .before .before .before .before .before .before .before .before .before .before .before .before .before .before .before .before .c .given .1) (c .before .before .before .before .before .before .before .before .before .before .fault-of .ensures) (c .before .before .before .before .before .before .before .before .before .if1 .left) (c .before .before .before .before .before .before .before .before .before .before .before .before .before .before .before .slot-of .ensures), (slot-room _ _ _ _ _ _ (c .before .before .before .before .before .before .before .before .before .before .before .before .before .before .before .before .before .before .before .before .before .loop .inv) (c .before .before .before .before .before .before .before .before .before .before .before .before .before .before .before .before .before .before .before .step .ensures) (c .before .before .before .before .before .before .before .before .before .before .before .before .before .before .before .before .before .c .given .1) (c .before .before .before .before .before .before .before .before .before .before .fault-of .ensures) (c .before .before .before .before .before .before .before .before .before .if1 .left) (c .before .before .before .before .before .before .before .before .before .before .before .before .before .before .before .slot-of .ensures), c .before .before .before .before .before .before .before .before .before .before .before .before .before .before .before .before .before .before .before .before .before .loop .inv .agrees .size))
 
 loop-less : tie.Need-loop-less Inv-loop μ-loop
-loop-less c = turn-less _ _ _ _ _ _ (c .before .before .before .before .before .before .before .before .before .before .before .before .before .before .before .before .before .before .before .loop .inv) (c .before .before .before .before .before .before .before .before .before .before .before .before .before .before .before .before .before .step .ensures) (c .before .before .before .before .before .before .before .before .before .before .before .before .before .before .before .c .given .1) (c .before .before .before .before .before .before .before .before .before .before .before .fault-of .ensures) (c .before .before .before .before .before .before .before .before .before .before .if1 .left)
+loop-less c = turn-less _ _ _ _ _ _ (c .before .before .before .before .before .before .before .before .before .before .before .before .before .before .before .before .before .before .before .before .before .before .before .loop .inv) (c .before .before .before .before .before .before .before .before .before .before .before .before .before .before .before .before .before .before .before .before .before .step .ensures) (c .before .before .before .before .before .before .before .before .before .before .before .before .before .before .before .before .before .before .before .c .given .1) (c .before .before .before .before .before .before .before .before .before .before .before .before .fault-of .ensures) (c .before .before .before .before .before .before .before .before .before .before .before .if1 .left)
 
 loop-again : tie.Need-loop-again Inv-loop μ-loop
-loop-again c = turn-on _ _ _ _ _ _ (c .before .before .before .before .before .before .before .before .before .before .before .before .before .before .before .before .before .before .before .loop .inv) (c .before .before .before .before .before .before .before .before .before .before .before .before .before .before .before .before .before .step .ensures) (c .before .before .before .before .before .before .before .before .before .before .before .before .before .before .before .c .given .1) (c .before .before .before .before .before .before .before .before .before .before .before .fault-of .ensures) (c .before .before .before .before .before .before .before .before .before .before .if1 .left) (c .before .slot-of .ensures) _ _ _ _ _ (c .before .before .before .before .before .before .put-key .ensures .0) (c .before .before .before .before .before .before .put-key .ensures .1 .0) (c .before .before .before .before .before .before .put-key .ensures .1 .1) (c .before .before .before .pick .ensures) (c .before .before .pick2 .ensures) (c .before .before .before .before .before .before .before .before .before .if2 .left) _ (c .push .ensures)
+loop-again c = turn-on _ _ _ _ _ _ (c .before .before .before .before .before .before .before .before .before .before .before .before .before .before .before .before .before .before .before .before .before .before .before .loop .inv) (c .before .before .before .before .before .before .before .before .before .before .before .before .before .before .before .before .before .before .before .before .before .step .ensures) (c .before .before .before .before .before .before .before .before .before .before .before .before .before .before .before .before .before .before .before .c .given .1) (c .before .before .before .before .before .before .before .before .before .before .before .before .fault-of .ensures) (c .before .before .before .before .before .before .before .before .before .before .before .if1 .left) (c .before .before .before .before .before .before .before .before .before .before .before .before .before .before .before .before .before .slot-of .ensures) _ _ _ _ (c .before .before .before .before .before .before .put-key .ensures .0) (c .before .before .before .before .before .before .put-key .ensures .1 .0) (c .before .before .before .before .before .before .put-key .ensures .1 .1 .0) (c .before .before .before .before .before .before .put-key .ensures .1 .1 .1) (c .before .before .before .before .before .before .before .before .before .before .if2 .left) _ (c .before .push .ensures .1) _ (c .before .push .ensures .0)
 
 pub check-record-spec : {M : Type 1} → statement M
 check-record-spec =
@@ -93,7 +101,6 @@ check-record-spec =
     (tie.spec
     Inv-loop
     μ-loop
-    new-requires
     loop-holds
     add-place
     step-requires
@@ -102,18 +109,22 @@ check-record-spec =
     enum-told-2
     returns-2
     enum-known-c
+    slot-of-requires
     slice-aggregate-fault-of
     slice-aggregate-fault-of-2
+    slice-aggregate-fault-of-3
+    slice-aggregate-fault-of-4
     fault-of-requires
     returns-3
     add-end
+    word-at-requires
+    word-at-requires-2
     returns-4
     slice-aggregate-put-key
     slice-aggregate-put-key-2
+    slice-aggregate-put-key-3
     put-key-requires
-    pick-requires
-    pick-requires-2
-    slot-of-requires
+    slice-aggregate-push
     push-requires
     loop-less
     loop-again)

@@ -1,6 +1,7 @@
 use mathlib.Core.Path.{ap, _∙_}
 use Prim.Native.Nat.{_-_}
 use lib.ListN.{length, length-drop}
+use Rattle.strings.specs.Scan.{digestFrom}
 use Rattle.book.proofs.Books.{Booked, booked-none, booked-end, booked-refused, booked-few, booked-less, booked-on, size-commands, size-text}
 use native.Mathlib.Omega.{arith}
 use borrow.Author.Needs.{needs}
@@ -8,10 +9,10 @@ use Rattle.book.proofs.check_records.Statement.{statement}
 use Rattle.book.proofs.check_records.Tie as tie
 
 abbrev Inv-loop : tie.InvT-loop
-Inv-loop commands text begins₀ starts₀ lens₀ n₀ at₀ begins starts lens n at = Booked commands text begins starts lens n at
+Inv-loop commands text begins₀ starts₀ lens₀ marks₀ tame n₀ at₀ begins starts lens marks n at = Booked commands text begins starts lens marks n at
 
 abbrev μ-loop : tie.MeasureT-loop
-μ-loop commands text begins₀ starts₀ lens₀ n₀ at₀ begins starts lens n at = length commands - at
+μ-loop commands text begins₀ starts₀ lens₀ marks₀ tame n₀ at₀ begins starts lens marks n at = length commands - at
 
 returns : tie.Need-returns Inv-loop μ-loop
 returns c = size-commands _ _ (c .if1 .taken)
@@ -19,14 +20,17 @@ returns c = size-commands _ _ (c .if1 .taken)
 returns-2 : tie.Need-returns-2 Inv-loop μ-loop
 returns-2 c = size-text _ _ (c .before .if1 .left) (c .if2 .taken)
 
+is-known-tame-requires : tie.Need-is-known-tame-requires Inv-loop μ-loop
+is-known-tame-requires c κs = search needs
+
 loop-holds : tie.Need-loop-holds Inv-loop μ-loop
-loop-holds c = booked-none _ _ (c .before .if1 .left) (c .if2 .left) _ _ _ (c .before .before .before .before .before .before .before .pre .0) (c .before .before .before .before .before .before .before .pre .1 .0) (c .before .before .before .before .before .before .before .pre .1 .1)
+loop-holds c = booked-none _ _ (c .before .before .if1 .left) (c .before .if2 .left) _ _ _ _ (c .before .before .before .before .before .before .before .before .before .pre .0) (c .before .before .before .before .before .before .before .before .before .pre .1 .0) (c .before .before .before .before .before .before .before .before .before .pre .1 .1 .0) (c .before .before .before .before .before .before .before .before .before .pre .1 .1 .1)
 
 from-requires : tie.Need-from-requires Inv-loop μ-loop
 from-requires c κs = search needs
 
 check-record-requires : tie.Need-check-record-requires Inv-loop μ-loop
-check-record-requires c κs = let a = c .before .before .before .before .before .before .before .before .before .before .before .before .args in let l = ap length (c .before .before .from .ensures) ∙ length-drop (c .before .before .before .before .loop .at) (a .commands .now) in ((omega (arith, l, c .before .before .before .loop-test .taken), omega (arith, l, c .before .before .before .loop-test .taken, c .before .before .before .before .before .before .if1 .left)), c .before .before .before .before .loop .inv .table)
+check-record-requires c κs = let l = ap length (c .before .before .before .from .ensures) ∙ length-drop (c .before .before .before .before .before .loop .at) (c .before .before .before .before .before .before .before .before .before .before .before .before .before .before .before .args .commands .now) in ((omega (arith, l, c .before .before .before .before .loop-test .taken), omega (arith, l, c .before .before .before .before .loop-test .taken, c .before .before .before .before .before .before .before .before .if1 .left)), (c .before .before .before .before .before .before .is-known-tame .ensures, (c .before .before .before .before .before .loop .inv .table, c .before .before .before .before .before .loop .inv .marked)))
 
 enum-known-k : tie.Need-enum-known-k Inv-loop μ-loop
 enum-known-k c = search needs
@@ -40,47 +44,62 @@ same-length-2 c = search needs
 same-length-3 : tie.Need-same-length-3 Inv-loop μ-loop
 same-length-3 c = search needs
 
+same-length-4 : tie.Need-same-length-4 Inv-loop μ-loop
+same-length-4 c = search needs
+
 returns-3 : tie.Need-returns-3 Inv-loop μ-loop
-returns-3 c = booked-refused _ _ (c .before .before .before .before .before .before .before .before .loop .inv) _ (c .before .before .before .before .before .before .from .ensures) _ (c .before .before .before .check-record .ensures) _ _ (c .before .k .given .1)
+returns-3 c = booked-refused _ _ (c .before .before .before .before .before .before .before .before .before .loop .inv) _ (c .before .before .before .before .before .before .before .from .ensures) _ (c .before .before .before .check-record .ensures) _ _ (c .before .k .given .1)
 
 enum-known-to : tie.Need-enum-known-to Inv-loop μ-loop
 enum-known-to c = search needs
 
+piece-requires : tie.Need-piece-requires Inv-loop μ-loop
+piece-requires c κs = search needs
+
+digest-requires : tie.Need-digest-requires Inv-loop μ-loop
+digest-requires c κs = search needs
+
 mul-begins : tie.Need-mul-begins Inv-loop μ-loop
-mul-begins c = omega (arith, booked-few _ _ (c .before .before .before .before .before .before .before .before .loop .inv) _ (c .before .before .before .before .before .before .from .ensures) _ (c .before .before .before .check-record .ensures) _ _ _ (c .before .to .given .1))
+mul-begins c = omega (arith, booked-few _ _ (c .before .before .before .before .before .before .before .before .before .before .before .loop .inv) _ (c .before .before .before .before .before .before .before .before .before .from .ensures) _ (c .before .before .before .before .before .check-record .ensures) _ _ _ (c .before .before .before .to .given .1))
 
 slice-write-begins : tie.Need-slice-write-begins Inv-loop μ-loop
-slice-write-begins c = omega (arith, booked-few _ _ (c .before .before .before .before .before .before .before .before .loop .inv) _ (c .before .before .before .before .before .before .from .ensures) _ (c .before .before .before .check-record .ensures) _ _ _ (c .before .to .given .1))
+slice-write-begins c = omega (arith, booked-few _ _ (c .before .before .before .before .before .before .before .before .before .before .before .loop .inv) _ (c .before .before .before .before .before .before .before .before .before .from .ensures) _ (c .before .before .before .before .before .check-record .ensures) _ _ _ (c .before .before .before .to .given .1))
 
 mul-starts : tie.Need-mul-starts Inv-loop μ-loop
-mul-starts c = omega (arith, booked-few _ _ (c .before .before .before .before .before .before .before .before .loop .inv) _ (c .before .before .before .before .before .before .from .ensures) _ (c .before .before .before .check-record .ensures) _ _ _ (c .before .to .given .1))
+mul-starts c = omega (arith, booked-few _ _ (c .before .before .before .before .before .before .before .before .before .before .before .loop .inv) _ (c .before .before .before .before .before .before .before .before .before .from .ensures) _ (c .before .before .before .before .before .check-record .ensures) _ _ _ (c .before .before .before .to .given .1))
 
 slice-write-starts : tie.Need-slice-write-starts Inv-loop μ-loop
-slice-write-starts c = omega (arith, booked-few _ _ (c .before .before .before .before .before .before .before .before .loop .inv) _ (c .before .before .before .before .before .before .from .ensures) _ (c .before .before .before .check-record .ensures) _ _ _ (c .before .to .given .1))
+slice-write-starts c = omega (arith, booked-few _ _ (c .before .before .before .before .before .before .before .before .before .before .before .loop .inv) _ (c .before .before .before .before .before .before .before .before .before .from .ensures) _ (c .before .before .before .before .before .check-record .ensures) _ _ _ (c .before .before .before .to .given .1))
 
 mul-lens : tie.Need-mul-lens Inv-loop μ-loop
-mul-lens c = omega (arith, booked-few _ _ (c .before .before .before .before .before .before .before .before .loop .inv) _ (c .before .before .before .before .before .before .from .ensures) _ (c .before .before .before .check-record .ensures) _ _ _ (c .before .to .given .1))
+mul-lens c = omega (arith, booked-few _ _ (c .before .before .before .before .before .before .before .before .before .before .before .loop .inv) _ (c .before .before .before .before .before .before .before .before .before .from .ensures) _ (c .before .before .before .before .before .check-record .ensures) _ _ _ (c .before .before .before .to .given .1))
 
 slice-write-lens : tie.Need-slice-write-lens Inv-loop μ-loop
-slice-write-lens c = omega (arith, booked-few _ _ (c .before .before .before .before .before .before .before .before .loop .inv) _ (c .before .before .before .before .before .before .from .ensures) _ (c .before .before .before .check-record .ensures) _ _ _ (c .before .to .given .1))
+slice-write-lens c = omega (arith, booked-few _ _ (c .before .before .before .before .before .before .before .before .before .before .before .loop .inv) _ (c .before .before .before .before .before .before .before .before .before .from .ensures) _ (c .before .before .before .before .before .check-record .ensures) _ _ _ (c .before .before .before .to .given .1))
+
+slice-write-marks : tie.Need-slice-write-marks Inv-loop μ-loop
+slice-write-marks c = omega (arith, booked-few _ _ (c .before .before .before .before .before .before .before .before .before .before .before .loop .inv) _ (c .before .before .before .before .before .before .before .before .before .from .ensures) _ (c .before .before .before .before .before .check-record .ensures) _ _ _ (c .before .before .before .to .given .1))
 
 add-n : tie.Need-add-n Inv-loop μ-loop
-add-n c = omega (arith, booked-few _ _ (c .before .before .before .before .before .before .before .before .loop .inv) _ (c .before .before .before .before .before .before .from .ensures) _ (c .before .before .before .check-record .ensures) _ _ _ (c .before .to .given .1))
+add-n c = omega (arith, booked-few _ _ (c .before .before .before .before .before .before .before .before .before .before .before .loop .inv) _ (c .before .before .before .before .before .before .before .before .before .from .ensures) _ (c .before .before .before .before .before .check-record .ensures) _ _ _ (c .before .before .before .to .given .1))
 
 loop-less : tie.Need-loop-less Inv-loop μ-loop
-loop-less c = booked-less _ _ (c .before .before .before .before .before .before .before .before .loop .inv) _ (c .before .before .before .before .before .before .from .ensures) _ (c .before .before .before .check-record .ensures) _ _ _ (c .before .to .given .1)
+loop-less c = booked-less _ _ (c .before .before .before .before .before .before .before .before .before .before .before .loop .inv) _ (c .before .before .before .before .before .before .before .before .before .from .ensures) _ (c .before .before .before .before .before .check-record .ensures) _ _ _ (c .before .before .before .to .given .1)
 
 loop-again : tie.Need-loop-again Inv-loop μ-loop
-loop-again c = booked-on _ _ (c .before .before .before .before .before .before .before .before .loop .inv) _ (c .before .before .before .before .before .before .from .ensures) _ (c .before .before .before .check-record .ensures) _ _ _ (c .before .to .given .1)
-
-same-length-4 : tie.Need-same-length-4 Inv-loop μ-loop
-same-length-4 c = search needs
+loop-again c = booked-on _ _ (c .before .before .before .before .before .before .before .before .before .before .before .loop .inv) _ (c .before .before .before .before .before .before .before .before .before .from .ensures) _ (c .before .before .before .before .before .check-record .ensures) _ _ _ (c .before .before .before .to .given .1) _ (c .digest .ensures ∙ ap (digestFrom 0) (c .before .piece .ensures))
 
 same-length-5 : tie.Need-same-length-5 Inv-loop μ-loop
 same-length-5 c = search needs
 
 same-length-6 : tie.Need-same-length-6 Inv-loop μ-loop
 same-length-6 c = search needs
+
+same-length-7 : tie.Need-same-length-7 Inv-loop μ-loop
+same-length-7 c = search needs
+
+same-length-8 : tie.Need-same-length-8 Inv-loop μ-loop
+same-length-8 c = search needs
 
 returns-4 : tie.Need-returns-4 Inv-loop μ-loop
 returns-4 c = booked-end _ _ (c .before .loop .inv) (c .loop-test .left)
@@ -93,6 +112,7 @@ check-records-spec =
     μ-loop
     returns
     returns-2
+    is-known-tame-requires
     loop-holds
     from-requires
     check-record-requires
@@ -100,18 +120,23 @@ check-records-spec =
     same-length
     same-length-2
     same-length-3
+    same-length-4
     returns-3
     enum-known-to
+    piece-requires
+    digest-requires
     mul-begins
     slice-write-begins
     mul-starts
     slice-write-starts
     mul-lens
     slice-write-lens
+    slice-write-marks
     add-n
     loop-less
     loop-again
-    same-length-4
     same-length-5
     same-length-6
+    same-length-7
+    same-length-8
     returns-4)

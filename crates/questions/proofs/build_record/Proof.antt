@@ -54,14 +54,17 @@ upto-requires c κs = search needs
 slice-aggregate-write-listing : tie.Need-slice-aggregate-write-listing
 slice-aggregate-write-listing c = search needs
 
+slice-aggregate-write-listing-2 : tie.Need-slice-aggregate-write-listing-2
+slice-aggregate-write-listing-2 c = search needs
+
 write-listing-requires : tie.Need-write-listing-requires
-write-listing-requires c κs = let a = c .before .before .before .before .before .before .before .before .before .before .before .before .before .before .before .before .before .before .args in let y = ready (recordsOf (a .commands .now) (a .text .now)) _ _ _ _ (c .before .before .before .before .before .before .before .before .before .open-site .ensures) _ _ (c .before .before .before .before .before .merges .given .1) in (c .before .before .before .before .before .before .before .before .before .before .before .before .before .before .before .before .before .before .pre .0, (y .row-is, (base-same _ _ _ (y .base-is) _ (c .before .before .upto .ensures), base-short _ _ _ (y .base-is) _ (c .before .before .upto .ensures) (search needs))))
+write-listing-requires c κs = let a = c .before .before .before .before .before .before .before .before .before .before .before .before .before .before .before .before .before .before .before .args in let y = ready (recordsOf (a .commands .now) (a .text .now)) _ _ _ _ (c .before .before .before .before .before .before .before .before .before .before .open-site .ensures) _ _ (c .before .before .before .before .before .before .merges .given .1) in (search needs, (c .before .before .before .before .before .before .before .before .before .before .before .before .before .before .before .before .before .before .before .pre .0, (y .row-is, (base-same _ _ _ (y .base-is) _ (c .before .before .before .upto .ensures), base-short _ _ _ (y .base-is) _ (c .before .before .before .upto .ensures) (search needs)))))
 
 same-length : tie.Need-same-length
 same-length c = search needs
 
 returns-2 : tie.Need-returns-2
-returns-2 c = let a = c .before .before .before .before .before .before .before .before .before .before .before .before .before .before .before .before .before .before .before .before .before .args in told-as _ _ _ _ _ (after-ready (recordsOf (a .commands .now) (a .text .now)) _ _ _ _ (c .before .before .before .before .before .before .before .before .before .before .before .before .open-site .ensures) _ _ (c .before .before .before .before .before .before .before .before .merges .given .1) (buildOf (recordsOf (a .commands .now) (a .text .now)) (length (a .out .now)))) (c .before .before .write-listing .ensures)
+returns-2 c = let a = c .before .before .before .before .before .before .before .before .before .before .before .before .before .before .before .before .before .before .before .before .before .before .before .args in told-as _ _ _ _ _ (after-ready (recordsOf (a .commands .now) (a .text .now)) _ _ _ _ (c .before .before .before .before .before .before .before .before .before .before .before .before .before .before .open-site .ensures) _ _ (c .before .before .before .before .before .before .before .before .before .before .merges .given .1) (buildOf (recordsOf (a .commands .now) (a .text .now)) (length (a .out .now)))) (c .before .before .before .write-listing .ensures)
 
 pub build-record-spec : {M : Type 1} → statement M
 build-record-spec =
@@ -77,6 +80,7 @@ build-record-spec =
     slice-aggregate-upto
     upto-requires
     slice-aggregate-write-listing
+    slice-aggregate-write-listing-2
     write-listing-requires
     same-length
     returns-2)

@@ -54,14 +54,17 @@ upto-requires c κs = search needs
 slice-aggregate-write-candidates : tie.Need-slice-aggregate-write-candidates
 slice-aggregate-write-candidates c = search needs
 
+slice-aggregate-write-candidates-2 : tie.Need-slice-aggregate-write-candidates-2
+slice-aggregate-write-candidates-2 c = search needs
+
 write-candidates-requires : tie.Need-write-candidates-requires
-write-candidates-requires c κs = let a = c .before .before .before .before .before .before .before .before .before .before .before .before .before .before .before .before .before .before .before .args in let y = ready (recordsOf (a .commands .now) (a .text .now)) _ _ _ _ (c .before .before .before .before .before .before .before .before .before .open-site .ensures) _ _ (c .before .before .before .before .before .len .given .1) in (c .before .before .before .before .before .before .before .before .before .before .before .before .before .before .before .before .before .before .before .pre .0 .0, (y .row-is, (base-same _ _ _ (y .base-is) _ (c .before .before .upto .ensures), (base-short _ _ _ (y .base-is) _ (c .before .before .upto .ensures) (search needs), c .before .before .before .before .before .before .before .before .before .before .before .before .before .before .before .before .before .before .before .pre .1))))
+write-candidates-requires c κs = let a = c .before .before .before .before .before .before .before .before .before .before .before .before .before .before .before .before .before .before .before .before .args in let y = ready (recordsOf (a .commands .now) (a .text .now)) _ _ _ _ (c .before .before .before .before .before .before .before .before .before .before .open-site .ensures) _ _ (c .before .before .before .before .before .before .len .given .1) in (search needs, (c .before .before .before .before .before .before .before .before .before .before .before .before .before .before .before .before .before .before .before .before .pre .0 .0, (y .row-is, (base-same _ _ _ (y .base-is) _ (c .before .before .before .upto .ensures), (base-short _ _ _ (y .base-is) _ (c .before .before .before .upto .ensures) (search needs), c .before .before .before .before .before .before .before .before .before .before .before .before .before .before .before .before .before .before .before .before .pre .1)))))
 
 same-length : tie.Need-same-length
 same-length c = search needs
 
 returns-2 : tie.Need-returns-2
-returns-2 c = let a = c .before .before .before .before .before .before .before .before .before .before .before .before .before .before .before .before .before .before .before .before .before .before .args in told-as _ _ _ _ _ (after-ready (recordsOf (a .commands .now) (a .text .now)) _ _ _ _ (c .before .before .before .before .before .before .before .before .before .before .before .before .open-site .ensures) _ _ (c .before .before .before .before .before .before .before .before .len .given .1) (candidatesFrom (a .specifier .now) (length (a .out .now)))) (c .before .before .write-candidates .ensures)
+returns-2 c = let a = c .before .before .before .before .before .before .before .before .before .before .before .before .before .before .before .before .before .before .before .before .before .before .before .before .args in told-as _ _ _ _ _ (after-ready (recordsOf (a .commands .now) (a .text .now)) _ _ _ _ (c .before .before .before .before .before .before .before .before .before .before .before .before .before .before .open-site .ensures) _ _ (c .before .before .before .before .before .before .before .before .before .before .len .given .1) (candidatesFrom (a .specifier .now) (length (a .out .now)))) (c .before .before .before .write-candidates .ensures)
 
 pub candidates-record-spec : {M : Type 1} → statement M
 candidates-record-spec =
@@ -77,6 +80,7 @@ candidates-record-spec =
     slice-aggregate-upto
     upto-requires
     slice-aggregate-write-candidates
+    slice-aggregate-write-candidates-2
     write-candidates-requires
     same-length
     returns-2)

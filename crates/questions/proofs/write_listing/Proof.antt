@@ -23,39 +23,43 @@ use Rattle.listing.proofs.put_listing.Reads as put-listing-reads
 use Rattle.questions.proofs.refuse.Reads as refuse-reads
 use Rattle.sites.proofs.site_number.Reads as site-number-reads
 
-slice-aggregate-put-listing : tie.Need-slice-aggregate-put-listing
-slice-aggregate-put-listing c = search needs
-
 put-listing-requires : tie.Need-put-listing-requires
-put-listing-requires c κs = (c .before .before .before .before .before .before .before .pre .0, (c .before .before .before .before .before .before .before .pre .1 .0, (c .before .before .before .before .before .before .before .pre .1 .1 .0, (c .before .before .before .before .before .before .before .pre .1 .1 .1, omega arith))))
+put-listing-requires c κs = (c .before .before .before .before .before .before .before .before .pre .1 .0, (c .before .before .before .before .before .before .before .before .pre .1 .1 .0, (c .before .before .before .before .before .before .before .before .pre .1 .1 .1 .0, (c .before .before .before .before .before .before .before .before .pre .1 .1 .1 .1, omega arith))))
 
 refuse-requires : tie.Need-refuse-requires
 refuse-requires c κs = search needs
 
-returns : tie.Need-returns
-returns c = let a = c .before .before .before .before .before .before .before .before .before .before .before .args in kept-told _ _ _ _ _ (fit-short (buildReply (recordsOf (a .commands .now) (a .text .now)) (siteOf (recordsOf (a .commands .now) (a .text .now)) (a .row .now)) (a .merges)) (a .out .now) _ _ _ (emits-listing (recordsOf (a .commands .now) (a .text .now)) (a .row .now) (a .merges) _ _ _ _ (c .before .before .before .put-listing .ensures)) (c .before .if1 .taken)) (c .refuse .ensures)
-
-site-number-requires : tie.Need-site-number-requires
-site-number-requires c κs = c .before .before .before .before .before .before .before .before .before .before .pre .1 .0 .long
-
-put-listing-requires-2 : tie.Need-put-listing-requires-2
-put-listing-requires-2 c κs = (c .before .before .before .before .before .before .before .before .before .before .before .before .pre .0, (c .before .before .before .before .before .before .before .before .before .before .before .before .pre .1 .0, (c .before .before .before .before .before .before .before .before .before .before .before .before .pre .1 .1 .0, (c .before .before .before .before .before .before .before .before .before .before .before .before .pre .1 .1 .1, omega arith))))
-
 same-length : tie.Need-same-length
 same-length c = search needs
 
+returns : tie.Need-returns
+returns c = let a = c .before .before .before .before .before .before .before .before .before .before .before .before .before .args in kept-told _ _ _ _ _ (fit-short (buildReply (recordsOf (a .commands .now) (a .text .now)) (siteOf (recordsOf (a .commands .now) (a .text .now)) (a .row .now)) (a .merges)) (a .out .now) _ _ _ (emits-listing (recordsOf (a .commands .now) (a .text .now)) (a .row .now) (a .merges) _ _ _ _ (c .before .before .before .before .put-listing .ensures)) (c .before .if1 .taken)) (c .refuse .ensures)
+
+site-number-requires : tie.Need-site-number-requires
+site-number-requires c κs = c .before .before .before .before .before .before .before .before .before .before .before .before .pre .1 .1 .0 .long
+
+put-listing-requires-2 : tie.Need-put-listing-requires-2
+put-listing-requires-2 c κs = (c .before .before .before .before .before .before .before .before .before .before .before .before .before .before .pre .1 .0, (c .before .before .before .before .before .before .before .before .before .before .before .before .before .before .pre .1 .1 .0, (c .before .before .before .before .before .before .before .before .before .before .before .before .before .before .pre .1 .1 .1 .0, (c .before .before .before .before .before .before .before .before .before .before .before .before .before .before .pre .1 .1 .1 .1, omega arith))))
+
+same-length-2 : tie.Need-same-length-2
+same-length-2 c = search needs
+
+same-length-3 : tie.Need-same-length-3
+same-length-3 c = search needs
+
 returns-2 : tie.Need-returns-2
-returns-2 c = let a = c .before .before .before .before .before .before .before .before .before .before .before .before .before .before .before .args in told-given (buildReply (recordsOf (a .commands .now) (a .text .now)) (siteOf (recordsOf (a .commands .now) (a .text .now)) (a .row .now)) (a .merges)) (a .out .now) _ _ _ (emits-listing (recordsOf (a .commands .now) (a .text .now)) (a .row .now) (a .merges) _ _ _ _ (c .before .before .before .before .before .before .before .put-listing .ensures)) (c .before .before .before .before .before .if1 .left) _ _ (emits-listing (recordsOf (a .commands .now) (a .text .now)) (a .row .now) (a .merges) _ _ _ _ (c .before .before .put-listing2 .ensures)) _ refl refl (c .before .before .before .before .site-number .ensures ∙ site-numbered (recordsOf (a .commands .now) (a .text .now)) (a .row .now)) refl refl
+returns-2 c = let a = c .before .before .before .before .before .before .before .before .before .before .before .before .before .before .before .before .before .args in told-given (buildReply (recordsOf (a .commands .now) (a .text .now)) (siteOf (recordsOf (a .commands .now) (a .text .now)) (a .row .now)) (a .merges)) (a .out .now) _ _ _ (emits-listing (recordsOf (a .commands .now) (a .text .now)) (a .row .now) (a .merges) _ _ _ _ (c .before .before .before .before .before .before .before .before .put-listing .ensures)) (c .before .before .before .before .before .if1 .left) _ _ (emits-listing (recordsOf (a .commands .now) (a .text .now)) (a .row .now) (a .merges) _ _ _ _ (c .before .before .put-listing2 .ensures)) _ refl refl (c .before .before .before .before .site-number .ensures ∙ site-numbered (recordsOf (a .commands .now) (a .text .now)) (a .row .now)) refl refl
 
 pub write-listing-spec : {M : Type 1} → statement M
 write-listing-spec =
     tie.close
     (tie.spec
-    slice-aggregate-put-listing
     put-listing-requires
     refuse-requires
+    same-length
     returns
     site-number-requires
     put-listing-requires-2
-    same-length
+    same-length-2
+    same-length-3
     returns-2)

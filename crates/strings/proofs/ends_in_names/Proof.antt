@@ -1,17 +1,12 @@
-use Prim.Native.Nat.{ℕ, suc, _+_, _-_, _≤_, _<_}
-use mathlib.Core.Path.{_≡_, refl, sym, ap, _∙_}
-use lib.ListN.{length, take, drop}
+use mathlib.Core.Path.{refl}
+use Prim.Native.Nat.{_-_, _≤_}
+use lib.ListN.{length}
 use Rattle.strings.proofs.Gather.{Gathered}
-use Rattle.strings.proofs.Names.{behind, ends-step, ends-all}
+use Rattle.strings.proofs.Names.{behind, ends-step, ends-pass, ends-all}
 use native.Mathlib.Omega.{arith}
 use borrow.Author.Needs.{needs}
 use Rattle.strings.proofs.ends_in_names.Statement.{statement}
 use Rattle.strings.proofs.ends_in_names.Tie as tie
-use Rattle.strings.proofs.ends_in_names.Reads as reads
-use Rattle.strings.proofs.ends_in_names.Lts as lts
-use Rattle.strings.proofs.byte_or_slash.Reads as byte-or-slash-reads
-use Rattle.strings.proofs.no_name.Reads as no-name-reads
-use Rattle.text.proofs.from.Reads as from-reads
 
 abbrev Inv-loop : tie.InvT-loop
 Inv-loop s bad₀ i₀ bad i = (i ≤ length s) × Gathered (behind s) i bad
@@ -21,6 +16,18 @@ abbrev μ-loop : tie.MeasureT-loop
 
 loop-holds : tie.Need-loop-holds Inv-loop μ-loop
 loop-holds c = (omega arith, refl)
+
+shared-slice-read-if1 : tie.Need-shared-slice-read-if1 Inv-loop μ-loop
+shared-slice-read-if1 c = search needs
+
+add-i : tie.Need-add-i Inv-loop μ-loop
+add-i c = search needs
+
+loop-less : tie.Need-loop-less Inv-loop μ-loop
+loop-less c = search needs
+
+loop-again : tie.Need-loop-again Inv-loop μ-loop
+loop-again c = (omega arith, ends-pass (c .before .before .before .before .before .args .s .now) (c .before .before .before .loop .i) (c .before .before .before .loop .bad) (c .before .before .before .loop .inv .1) (c .before .before .loop-test .taken) (c .if1 .taken))
 
 add-from : tie.Need-add-from Inv-loop μ-loop
 add-from c = search needs
@@ -43,14 +50,14 @@ byte-or-slash-requires-3 c κs = search needs
 no-name-requires : tie.Need-no-name-requires Inv-loop μ-loop
 no-name-requires c κs = search needs
 
-add-i : tie.Need-add-i Inv-loop μ-loop
-add-i c = search needs
+add-i-2 : tie.Need-add-i-2 Inv-loop μ-loop
+add-i-2 c = search needs
 
-loop-less : tie.Need-loop-less Inv-loop μ-loop
-loop-less c = search needs
+loop-less-2 : tie.Need-loop-less-2 Inv-loop μ-loop
+loop-less-2 c = search needs
 
-loop-again : tie.Need-loop-again Inv-loop μ-loop
-loop-again c = (omega arith, ends-step (c .before .before .before .before .before .before .before .before .before .args .s .now) (c .before .before .before .before .before .before .before .loop .i) (c .before .before .before .before .before .before .before .loop .bad) (c .before .before .before .before .before .before .before .loop .inv .1) _ _ _ _ (c .no-name .result) (c .before .before .before .before .before .from .ensures) (c .before .before .before .byte-or-slash .ensures) (c .before .before .byte-or-slash2 .ensures) (c .before .byte-or-slash3 .ensures) (c .before .before .before .before .before .before .loop-test .taken) (c .no-name .ensures))
+loop-again-2 : tie.Need-loop-again-2 Inv-loop μ-loop
+loop-again-2 c = (omega arith, ends-step (c .before .before .before .before .before .before .before .before .before .before .before .args .s .now) (c .before .before .before .before .before .before .before .before .before .loop .i) (c .before .before .before .before .before .before .before .before .before .loop .bad) (c .before .before .before .before .before .before .before .before .before .loop .inv .1) _ _ _ _ (c .no-name .result) (c .before .before .before .before .before .from .ensures) (c .before .before .before .byte-or-slash .ensures) (c .before .before .byte-or-slash2 .ensures) (c .before .byte-or-slash3 .ensures) (c .before .before .before .before .before .before .before .before .loop-test .taken) (c .no-name .ensures))
 
 returns : tie.Need-returns Inv-loop μ-loop
 returns c = ends-all (c .before .before .before .args .s .now) (c .before .loop .i) (c .before .loop .bad) (c .before .loop .inv .1) (c .loop-test .left)
@@ -62,6 +69,10 @@ ends-in-names-spec =
     Inv-loop
     μ-loop
     loop-holds
+    shared-slice-read-if1
+    add-i
+    loop-less
+    loop-again
     add-from
     from-requires
     shared-slice-read-no-name
@@ -69,7 +80,7 @@ ends-in-names-spec =
     byte-or-slash-requires-2
     byte-or-slash-requires-3
     no-name-requires
-    add-i
-    loop-less
-    loop-again
+    add-i-2
+    loop-less-2
+    loop-again-2
     returns)

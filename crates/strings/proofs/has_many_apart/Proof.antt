@@ -1,16 +1,12 @@
-use Prim.Native.Nat.{ℕ, suc, _+_, _-_, _≤_, _<_}
-use mathlib.Core.Path.{_≡_, refl, sym, ap, _∙_}
-use lib.ListN.{length, take, drop}
+use Prim.Native.Nat.{_-_}
+use mathlib.Core.Path.{refl}
+use lib.ListN.{length}
 use Rattle.strings.proofs.Gather.{Gathered}
 use Rattle.strings.proofs.Stars.{apart, apart-first, apart-second, apart-step, apart-end}
 use native.Mathlib.Omega.{arith}
 use borrow.Author.Needs.{needs}
-use Rattle.strings.proofs.has_stars_apart.Statement.{statement}
-use Rattle.strings.proofs.has_stars_apart.Tie as tie
-use Rattle.strings.proofs.has_stars_apart.Reads as reads
-use Rattle.strings.proofs.has_stars_apart.Lts as lts
-use Rattle.strings.proofs.crowd.Reads as crowd-reads
-use Rattle.text.proofs.from.Reads as from-reads
+use Rattle.strings.proofs.has_many_apart.Statement.{statement}
+use Rattle.strings.proofs.has_many_apart.Tie as tie
 
 abbrev Inv-loop : tie.InvT-loop
 Inv-loop s second third bad₀ i₀ bad i = Gathered (apart s) i bad
@@ -51,8 +47,8 @@ loop-again c = apart-step (c .before .before .before .before .before .before .be
 returns : tie.Need-returns Inv-loop μ-loop
 returns c = apart-end (c .before .before .before .before .before .args .s .now) _ _ (c .before .before .before .from .ensures) (c .before .before .from2 .ensures) (c .before .loop .i) (c .before .loop .bad) (c .before .loop .inv) (c .loop-test .left)
 
-pub has-stars-apart-spec : {M : Type 1} → statement M
-has-stars-apart-spec =
+pub has-many-apart-spec : {M : Type 1} → statement M
+has-many-apart-spec =
     tie.close
     (tie.spec
     Inv-loop

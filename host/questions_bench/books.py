@@ -1,0 +1,94 @@
+#!/usr/bin/env python3
+"""books.py FOLDER: the books of docs/SPEED.md's figures for whole questions, each as NAME.cmd and NAME.txt, and NAME.ask with its question lines.
+typical: a base config and 19 packages that extend it. limits: the same with 63 packages, as large as the limits of a book let them be.
+ladder: 60 configs, each of which extends the two before it by two entries."""
+import sys
+
+
+class Book:
+    def __init__(self):
+        self.commands, self.text = bytearray(), bytearray()
+
+    def lone(self, *command):
+        self.commands += bytes(command)
+
+    def put(self, command, string):
+        start, n = len(self.text), len(string)
+        self.text += string.encode()
+        self.commands += bytes([command, start % 256, start // 256, n % 256, n // 256])
+
+
+def base(book):
+    book.put(1, '/repo/tsconfig.base.json')
+    book.put(9, '.')
+    book.lone(10)
+    book.put(11, '@shared/*')
+    book.put(12, 'packages/shared/src/*')
+    book.lone(18, 0, 1, 20)
+
+
+def usual(book, n):
+    book.put(1, f'/repo/packages/part-{n:02}/tsconfig.json')
+    book.put(8, '../../tsconfig.base.json')
+    book.lone(4)
+    book.put(5, 'src/**/*')
+    book.lone(6)
+    book.put(7, 'dist')
+    book.lone(10)
+    book.put(11, f'@part-{n:02}/*')
+    book.put(12, 'src/*')
+    book.put(16, 'dist')
+    book.lone(18, 0, 1, 20)
+
+
+def large(book, n):
+    book.put(1, f'/repo/packages/part-{n:02}/tsconfig.json')
+    book.put(8, '../../tsconfig.base.json')
+    book.lone(2)
+    for i in range(30):
+        book.put(3, f'src/f{i:02}.ts')
+    book.lone(4)
+    for i in range(24):
+        book.put(5, f's{i:02}/**/*')
+    book.lone(6)
+    for i in range(8):
+        book.put(7, f'd{i}')
+    book.lone(10)
+    for i in range(12):
+        book.put(11, f'@p{n:02}k{i:02}/*')
+        book.put(12, f'src/k{i:02}/*')
+    book.lone(20)
+
+
+def ladder(book, n):
+    book.put(1, f'/repo/rung-{n:02}.json')
+    for before in (n - 1, n - 2):
+        if before >= 0:
+            book.put(8, f'./rung-{before:02}.json')
+    book.lone(20)
+
+
+def packages(one, count):
+    book = Book()
+    base(book)
+    for n in range(count):
+        one(book, n)
+    last = f'/repo/packages/part-{count - 1:02}'
+    return book, [f'B {last}/tsconfig.json', f'O {last}/src/a/b.ts', f'C {last}/tsconfig.json\t@part-{count - 1:02}/x', f'C {last}/tsconfig.json\tother/x']
+
+
+def main(folder):
+    books = {'typical': packages(usual, 19), 'limits': packages(large, 63)}
+    rungs = Book()
+    for n in range(60):
+        ladder(rungs, n)
+    books['ladder'] = rungs, ['B /repo/rung-59.json']
+    for name, (book, lines) in books.items():
+        assert len(book.commands) <= 32768 and len(book.text) <= 65535, (name, len(book.commands), len(book.text))
+        for end, data in (('cmd', book.commands), ('txt', book.text), ('ask', '\n'.join(lines).encode() + b'\n')):
+            with open(f'{folder}/{name}.{end}', 'wb') as file:
+                file.write(data)
+        print(name, len(book.commands), len(book.text))
+
+
+main(sys.argv[1])
