@@ -1,28 +1,32 @@
 -- Demand 3 of what the entries return. Assumes nothing.
 use mathlib.Core.Path.{_≡_, refl, sym, ap, subst, _∙_}
-use mathlib.Core.List.{List, [], _∷_, _++_}
-use mathlib.Core.Bool.{Bool, true, false, _&&_, cond}
+use mathlib.Core.List.{List, [], _∷_, _++_, map, reverse}
+use mathlib.Core.Bool.{Bool, true, false, _&&_, _||_, cond}
 use mathlib.Core.Option.{Option, some, none}
-use Prim.Native.Nat.{ℕ, zero, suc, _-_, _<_}
+use Prim.Native.Nat.{ℕ, zero, suc, _+_, _-_, _<_, _≤_}
 use native.Mathlib.Omega.{arith}
-use lib.ListN.{length, drop, length-map}
-use lib.Dec.{ltb}
+use lib.ListN.{length, drop, length-map, length-reverse}
+use lib.Dec.{eqb, leb, ltb}
 use Rattle.text.specs.Bytes.{Text, tsconfigJson}
 use Rattle.path.specs.Path.{pushOf, insideNodeModules, components}
 use Rattle.path.proofs.Pieces.{by-test}
-use Rattle.book.specs.Answer.{Answer, refused, given, _>>=_}
-use Rattle.book.specs.Book.{verdict}
+use Rattle.book.specs.declared.Cmd.{Cmd}
+use Rattle.book.specs.Answer.{Answer, refused, given, _>>=_, unless}
+use Rattle.book.specs.Command.{Decoded, ended, broken, command, decode, decodeAt, widthOf, noCommand, end}
+use Rattle.book.specs.Rules.{Before, fault}
+use Rattle.book.specs.Book.{next, finish, judge, nothing, verdict}
 use Rattle.book.specs.Find.{find, locate}
 use Rattle.book.specs.Sound.{All, nil, cons}
 use Rattle.strings.specs.Strings.{askedPath, stringRule}
-use Rattle.tsconfig.specs.Parsed.{Parsed}
+use Rattle.tsconfig.specs.Parsed.{Parsed, parsed}
 use Rattle.tsconfig.specs.Claims.{claimsOwnership, solution}
 use Rattle.tsconfig.specs.Mapping.{candidates}
 use Rattle.tsconfig_resolver.specs.Find.{recordAt, pathsOf, reached, seen}
 use Rattle.tsconfig_resolver.specs.Project.{Project, Owner, loadRecord, loadFound, loadPath, ownerOf, ownerFrom, ownerAt, owned, folders, siteAt}
 use Rattle.tsconfig_resolver.specs.Line.{line, entriesOf}
 use Rattle.tsconfig_resolver.proofs.Inside.{Fits, find-below, locate-below}
-use Rattle.rows.specs.Records.{recordsOf}
+use Rattle.rows.specs.Records.{recordsOf, parsedOf}
+use Rattle.rows.proofs.Books.{accepted-small}
 use Rattle.tsconfig.specs.Laid.{laid}
 use Rattle.questions.specs.Questions.{Outcome, Reply, fit, asked, listed, book, build, candidatesOf, owner, ownerReply, tsconfigBuild, tsconfigOwner, tsconfigCandidates, returned, output}
 use Rattle.questions.specs.Replies.{numbersOf, Told, buildOf, buildReply, candidatesFrom}
@@ -179,13 +183,13 @@ module _ (commands text : Text) where
         let g : some (record { found = p .site .number; solved = solution path (p .site) (p .references) }) ≡ some o = given-same (rw y at e₁) in
         let k : record { found = p .site .number; solved = solution path (p .site) (p .references) } ≡ o = cc in
         let n : o .found ≡ c = sym (ap (λ (x : Owner). x .found) k) ∙ ap (λ t. t .number) (i .flattened) in
-        owns c p l i o n (sym (i .claimed-with path) ∙ y) (sym (ap (λ (x : Owner). x .solved) k) ∙ ap (λ t. solution path t (p .references)) (i .flattened)))
+        owns c lt p l i o n (sym (i .claimed-with path) ∙ y) (sym (ap (λ (x : Owner). x .solved) k) ∙ ap (λ t. solution path t (p .references)) (i .flattened)))
         (λ f. more (rw f at e₁))
       where
-        owns : (c : ℕ) (p : Project) → loadRecord rs c ≡ given p → Inherits rs c p → (o : Owner) → o .found ≡ c →
+        owns : (c : ℕ) → c < length rs → (p : Project) → loadRecord rs c ≡ given p → Inherits rs c p → (o : Owner) → o .found ≡ c →
             claimsOwnership path (flatSite rs c) (p .references) ≡ true → o .solved ≡ solution path (flatSite rs c) (p .references) →
             OwnerInherits rs path (o .found) (o .solved)
-        owns c p l i o n y w = subst (λ (x : ℕ). OwnerInherits rs path x (o .solved)) (sym n) (record { loads = loads c p l i; claims = y; solution-is = w })
+        owns c lt p l i o n y w = subst (λ (x : ℕ). OwnerInherits rs path x (o .solved)) (sym n) (record { inside = lt; loads = loads c p l i; claims = y; solution-is = w })
 
     find-fits : (d : Text) → Fits (length rs) (reached (find (pushOf d tsconfigJson) (pathsOf rs)))
     find-fits d = subst (λ (n : ℕ). Fits n (reached (find (pushOf d tsconfigJson) (pathsOf rs)))) (length-map rs (λ r. r .path)) (find-below (pushOf d tsconfigJson) (pathsOf rs))
@@ -242,3 +246,72 @@ module _ (commands text : Text) where
             by-test (claimsOwnership path (p .site) (p .references))
             (λ t. absurd (none-some _ (sym (given-same (rw t at g)))))
             (λ f. (λ c n. let k : b ≡ c = cc in subst (λ (i : ℕ). (q : Project) × (loadRecord rs i ≡ given q) × (claimsOwnership path (flatSite rs i) (q .references) ≡ false)) k (p, l, sym ((inherits rs b p h l) .claimed-with path) ∙ f), rw f at g))
+
+-- No record's number is 65,535, which stands for none
+
+-- how many commands are decoded
+decodedCount : Decoded → ℕ
+decodedCount (ended at) = 0
+decodedCount (broken at) = 0
+decodedCount (command at c rest) = suc (decodedCount rest)
+
+count-within : (k at : ℕ) (s : Text) → decodedCount (decode k at s) ≤ length s
+unfolding decodedCount decode decodeAt
+count-within k at [] = omega arith
+count-within zero at (x ∷ s) =
+    by-test (eqb (widthOf x) noCommand) (λ y. rw y (omega arith))
+    (λ f. by-test (leb (length (x ∷ s)) (widthOf x)) (λ y. rw (f, y) (omega arith)) (λ g. rw (f, g) (omega (arith, count-within (widthOf x) (suc at) s))))
+count-within (suc k) at (x ∷ s) = omega (arith, count-within k (suc at) s)
+
+records-next : (b : Before) (c : Cmd) → length ((next b c) .records) ≤ suc (length (b .records))
+unfolding next
+records-next b c = by-test (eqb (c .op) end) (λ y. rw y (omega arith)) (λ f. rw f (omega arith))
+
+turn : {S : Type 0} {P : Type 0} (o : Option ℕ) (at : ℕ) (k : S → Answer (List (List Cmd))) (s : S) (rs : List (List Cmd)) → unless o at k s ≡ given rs → (k s ≡ given rs → P) → P
+turn (some n) at k s rs x h = absurd (refused-given x)
+turn none at k s rs x h = h x
+
+judged-few : (text : Text) (b : Before) (d : Decoded) (rs : List (List Cmd)) → judge text b d ≡ given rs → length rs ≤ length (b .records) + decodedCount d
+unfolding judge finish decodedCount
+judged-few text b (ended at) rs e =
+    by-test (eqb (length (b .here)) 0)
+    (λ y.
+    let z : reverse (map reverse (b .records)) ≡ rs = given-same (rw y at e) in
+    omega (arith, ap length z, length-reverse (map reverse (b .records)), length-map (b .records) reverse))
+    (λ f. absurd (refused-given (rw f at e)))
+judged-few text b (broken at) rs e = absurd (refused-given e)
+judged-few text b (command at c rest) rs e = turn (fault text b c) at (λ n. judge text n rest) (next b c) rs e (λ x. omega (arith, judged-few text (next b c) rest rs x, records-next b c))
+
+few-records : (commands text : Text) → length (recordsOf commands text) ≤ 32768
+unfolding recordsOf verdict
+few-records commands text = go (verdict commands text) refl
+  where
+    go : (o : Answer (List (List Cmd))) → verdict commands text ≡ o → length (parsedOf text o) ≤ 32768
+    go (refused n p) e = omega arith
+    go (given rs) e =
+        by-test (ltb 32768 (length commands) || ltb 65535 (length text))
+        (λ y. absurd (refused-given (rw y at e)))
+        (λ f. omega (arith, length-map rs (parsed text), accepted-small commands text rs e, judged-few text nothing (decode 0 0 commands) rs (rw f at e), count-within 0 0 commands))
+
+module _ (commands text path : Text) where
+  none-found : (r : Numbers) (a : Reply) (w : Option Owner) → ownerOf (recordsOf commands text) path ≡ given w → ownerReply w ≡ given a → Same a r → r .first ≡ 65535 → insideNodeModules path ≡ false →
+      All (Passed (recordsOf commands text) path) (folders (length (components path) - 1) path)
+  unfolding ownerOf ownerReply
+  none-found r a none e g s h f = owner-passed commands text path (folders (length (components path) - 1) path) (rw f at e)
+  none-found r a (some o) e g s h f =
+      let x : OwnerInherits (recordsOf commands text) path (o .found) (o .solved) = walks commands text path (folders (length (components path) - 1) path) o (rw f at e) in
+      let z : o .found ≡ 65535 = ap (λ (y : Reply). y .first) (given-same g) ∙ sym (s .first) ∙ h in
+      absurd (omega (arith, z, x .inside, few-records commands text))
+
+  -- what tsconfig_owner promises where it answers 65,535, outside node_modules
+  pub owner-none : (r : Numbers) → numbersOf r ≡ returned (tsconfigOwner commands text path) → r .number ≡ 0 → r .first ≡ 65535 → insideNodeModules path ≡ false →
+      All (Passed (recordsOf commands text) path) (folders (length (components path) - 1) path)
+  unfolding tsconfigOwner owner
+  owner-none r t z h f =
+      let o = tsconfigOwner commands text path in
+      let (a, e) = answered o r (owner-numbered commands text path) t z in
+      let (qs, b, e₁) = then-given (book commands text) (λ x. owner x path) e in
+      let q : qs ≡ recordsOf commands text = book-records commands text qs b in
+      let e₂ : owner (recordsOf commands text) path ≡ given a = subst (λ (x : List Parsed). owner x path ≡ given a) q e₁ in
+      let (w, e₃, e₄) = then-given (ownerOf (recordsOf commands text) path) ownerReply (asked-given (askedPath path) (ownerOf (recordsOf commands text) path >>= ownerReply) a e₂) in
+      none-found r a w e₃ e₄ (same o a r e t) h f

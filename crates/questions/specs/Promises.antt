@@ -4,7 +4,7 @@ use mathlib.Core.Path.{_≡_}
 use mathlib.Core.List.{List, [], _∷_, _++_}
 use mathlib.Core.Bool.{true, false}
 use mathlib.Core.Option.{Option, some, none}
-use Prim.Native.Nat.{ℕ}
+use Prim.Native.Nat.{ℕ, _<_}
 use lib.ListN.{length, drop}
 use Rattle.text.specs.Bytes.{Text, tsconfigJson}
 use Rattle.path.specs.Path.{pushOf}
@@ -56,6 +56,7 @@ module _ (rs : List Parsed) where
 
   -- "whatever path is asked, the loaded config claims it exactly when the flat one does": the config found does, by itself or by its references
   pub record OwnerInherits (path : Text) (found solved : ℕ) : Type 1 where
+    pub inside : found < length rs
     pub loads : Loads found
     pub claims : claimsOwnership path (flatSite rs found) (loads .project .references) ≡ true
     pub solution-is : solved ≡ solution path (flatSite rs found) (loads .project .references)
