@@ -113,7 +113,7 @@ part-length k s = part-at-length (starOf k) k s
 
 -- The ways out
 
-map-map : {A B C : Type 0} (f : B → C) (g : A → B) (l : List A) → map f (map g l) ≡ map (λ a. f (g a)) l
+pub map-map : {A B C : Type 0} (f : B → C) (g : A → B) (l : List A) → map f (map g l) ≡ map (λ a. f (g a)) l
 map-map f g [] = refl
 map-map f g (a ∷ l) = ap (λ x. f (g a) ∷ x) (map-map f g l)
 

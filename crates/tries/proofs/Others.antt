@@ -76,6 +76,9 @@ module _ (s text : Text) (rec : ℕ) (dir own root rest : Text) (at : ℕ) (o₀
   bounded : Within text dir own root rest (pre .0 .dir-short) (pre .0 .own-short) (pre .1 .1 .0) (recordAt s rec)
   bounded = within text dir own root rest (pre .0 .dir-short) (pre .0 .own-short) (pre .1 .1 .0) (recordAt s rec) (pre .0 .good)
 
+  pub others-most : length (inRoots root (some rest) (rootsOf s text dir own rec)) ≤ 32768
+  others-most = omega (arith, bounded .count, record-length s rec, pre .1 .0)
+
   pub others-start : Others s text rec dir own root rest at o₀ o₀ at rec 0
   others-start = record { good = pre .0 .good; owes = owes-all _ o₀ at; counts = omega arith; long = refl }
 
@@ -120,7 +123,7 @@ module _ (s text : Text) (rec : ℕ) (dir own root rest : Text) (at : ℕ) (o₀
             )
 
             pub others-few : count < 32768
-            others-few = omega (arith, inv .counts, ap length other-on, bounded .count, record-length s rec, pre .1 .0)
+            others-few = omega (arith, inv .counts, ap length other-on, others-most)
 
             pub others-on : (u : Text) (x : ℕ) → Emits (laid (normalizeWith v rest ∷ [])) o k u x → Others s text rec dir own root rest at o₀ u x next (count + 1)
             others-on u x g = record {

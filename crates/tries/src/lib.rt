@@ -44,14 +44,7 @@ const ROOT_DIRS_PLACE: usize = 5;
 
 // The root dir of the record at rec that p lies under and whose text is the longest, of equal ones the earliest. dir is the built config's
 // directory, own the record's.
-fn best_root(
-    commands: &[u8],
-    text: &[u8],
-    rec: usize,
-    dir: &[u8],
-    own: &[u8],
-    p: &[u8],
-) -> Item
+fn best_root(commands: &[u8], text: &[u8], rec: usize, dir: &[u8], own: &[u8], p: &[u8]) -> Item
     requires { ⌜ Rooted (now commands) (now text) rec (now dir) (now own) ⌝ }
     ensures { λ r. ⌜ BestRoot (now (commands .entry)) (now (text .entry)) rec (now (dir .entry)) (now (own .entry)) (now (p .entry)) r ⌝ }
 {
@@ -147,8 +140,9 @@ fn put_root_tries(
             };
             let rest = between(p, a, e);
             let others = put_in_roots(out, k, commands, text, rec, dir, own, root, rest);
+            let count = others.count + 1;
             return Listed {
-                count: others.count + 1,
+                count: count,
                 at: others.at,
             };
         }
@@ -211,8 +205,9 @@ pub fn put_tries(
         };
     };
     let end = put_read(base, spec, out, to);
+    let all = count + 1;
     Listed {
-        count: count + 1,
+        count: all,
         at: end,
     }
 }
