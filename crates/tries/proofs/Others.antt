@@ -1,13 +1,13 @@
 -- The rest of a path in the other root dirs, one item of the record after the other. Assumes nothing.
-use mathlib.Core.Path.{_≡_, refl, sym, ap, _∙_}
-use mathlib.Core.List.{List, [], _∷_, _++_, map}
+use mathlib.Core.Path.{_≡_, refl, ap, _∙_}
+use mathlib.Core.List.{List, [], _∷_, map}
 use mathlib.Core.Bool.{Bool, true, false, cond}
-use mathlib.Core.Option.{Option, some, none}
-use Prim.Native.Nat.{ℕ, _+_, _-_, _*_, _^_, _≤_, _<_}
+use mathlib.Core.Option.{some}
+use Prim.Native.Nat.{ℕ, _+_, _*_, _^_, _≤_, _<_}
 use native.Mathlib.Omega.{arith}
 use lib.ListN.{length, take, length-append}
 use Rattle.text.specs.Bytes.{Text}
-use Rattle.text.specs.Emit.{Room, Emits}
+use Rattle.text.specs.Emit.{Emits}
 use Rattle.text.proofs.Emits.{Owes, owes-all, owes-step, owes-end, emits-none, emits-length}
 use Rattle.path.specs.Path.{samePath, normalizeWith}
 use Rattle.path.specs.Places.{Holds}

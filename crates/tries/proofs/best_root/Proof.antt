@@ -6,13 +6,6 @@ use native.Mathlib.Omega.{arith}
 use borrow.Author.Needs.{needs}
 use Rattle.tries.proofs.best_root.Statement.{statement}
 use Rattle.tries.proofs.best_root.Tie as tie
-use Rattle.tries.proofs.best_root.Reads as reads
-use Rattle.tries.proofs.best_root.Lts as lts
-use Rattle.book.proofs.string_of.Reads as string-of-reads
-use Rattle.path.proofs.lies_under.Reads as lies-under-reads
-use Rattle.records.proofs.next_item.Reads as next-item-reads
-use Rattle.text.proofs.upto.Reads as upto-reads
-use Rattle.values.proofs.build_place.Reads as build-place-reads
 
 abbrev Inv-loop : tie.InvT-loop
 Inv-loop commands text rec dir own p at₀ best₀ least₀ at best least = Bests commands text rec dir own p at best least

@@ -1,14 +1,7 @@
 use Rattle.tries.proofs.Tries.{place-asks, unnamed, named-asks, named-gives}
-use native.Mathlib.Omega.{arith}
 use borrow.Author.Needs.{needs}
 use Rattle.tries.proofs.put_from_roots.Statement.{statement}
 use Rattle.tries.proofs.put_from_roots.Tie as tie
-use Rattle.tries.proofs.put_from_roots.Reads as reads
-use Rattle.tries.proofs.put_from_roots.Lts as lts
-use Rattle.path.proofs.normalize_with.Reads as normalize-with-reads
-use Rattle.rows.proofs.begin_at.Reads as begin-at-reads
-use Rattle.text.proofs.upto.Reads as upto-reads
-use Rattle.tries.proofs.put_root_tries.Reads as put-root-tries-reads
 
 begin-at-requires : tie.Need-begin-at-requires
 begin-at-requires c κs = place-asks (c .before .before .before .before .before .before .before .before .args .commands .now) (c .before .before .before .before .before .before .before .before .args .text .now) (c .before .before .before .before .before .before .before .before .args .begins .now) (c .before .before .before .before .before .before .before .before .args .row .now) (c .before .before .before .before .before .before .before .before .args .dir .now) (c .before .before .before .before .before .before .before .before .args .directory .now) (c .before .before .before .before .before .before .before .before .args .spec .now) (c .before .before .before .before .before .before .before .before .args .at) (c .before .before .before .before .before .before .before .before .pre)

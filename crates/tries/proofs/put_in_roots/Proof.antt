@@ -6,14 +6,6 @@ use native.Mathlib.Omega.{arith}
 use borrow.Author.Needs.{needs}
 use Rattle.tries.proofs.put_in_roots.Statement.{statement}
 use Rattle.tries.proofs.put_in_roots.Tie as tie
-use Rattle.tries.proofs.put_in_roots.Reads as reads
-use Rattle.tries.proofs.put_in_roots.Lts as lts
-use Rattle.book.proofs.string_of.Reads as string-of-reads
-use Rattle.mapping.proofs.put_read.Reads as put-read-reads
-use Rattle.path.proofs.same_path.Reads as same-path-reads
-use Rattle.records.proofs.next_item.Reads as next-item-reads
-use Rattle.text.proofs.upto.Reads as upto-reads
-use Rattle.values.proofs.build_place.Reads as build-place-reads
 
 abbrev Inv-loop : tie.InvT-loop
 Inv-loop out₀ at commands text rec dir own root rest k₀ to₀ count₀ out k to count = Others commands text rec dir own root rest at out₀ out k to count

@@ -3,17 +3,6 @@ use native.Mathlib.Omega.{arith}
 use borrow.Author.Needs.{needs}
 use Rattle.tries.proofs.put_root_tries.Statement.{statement}
 use Rattle.tries.proofs.put_root_tries.Tie as tie
-use Rattle.tries.proofs.put_root_tries.Reads as reads
-use Rattle.tries.proofs.put_root_tries.Lts as lts
-use Rattle.book.proofs.string_of.Reads as string-of-reads
-use Rattle.mapping.proofs.put_path.Reads as put-path-reads
-use Rattle.path.proofs.strip_prefix.Reads as strip-prefix-reads
-use Rattle.text.proofs.between.Reads as between-reads
-use Rattle.text.proofs.upto.Reads as upto-reads
-use Rattle.tries.proofs.best_root.Reads as best-root-reads
-use Rattle.tries.proofs.put_in_roots.Reads as put-in-roots-reads
-use Rattle.values.proofs.build_place.Reads as build-place-reads
-use Rattle.values.proofs.dir_at.Reads as dir-at-reads
 
 dir-at-requires : tie.Need-dir-at-requires
 dir-at-requires c κs = search needs

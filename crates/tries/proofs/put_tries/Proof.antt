@@ -4,15 +4,6 @@ use native.Mathlib.Omega.{arith}
 use borrow.Author.Needs.{needs}
 use Rattle.tries.proofs.put_tries.Statement.{statement}
 use Rattle.tries.proofs.put_tries.Tie as tie
-use Rattle.tries.proofs.put_tries.Reads as reads
-use Rattle.tries.proofs.put_tries.Lts as lts
-use Rattle.mapping.proofs.put_aliases.Reads as put-aliases-reads
-use Rattle.mapping.proofs.put_read.Reads as put-read-reads
-use Rattle.mapping.proofs.starts_dot.Reads as starts-dot-reads
-use Rattle.path.proofs.inside_node_modules.Reads as inside-node-modules-reads
-use Rattle.rows.proofs.begin_at.Reads as begin-at-reads
-use Rattle.sites.proofs.site_dir.Reads as site-dir-reads
-use Rattle.tries.proofs.put_from_roots.Reads as put-from-roots-reads
 
 inside-node-modules-requires : tie.Need-inside-node-modules-requires
 inside-node-modules-requires c κs = search needs
