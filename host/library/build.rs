@@ -19,12 +19,8 @@ fn link() -> Result<(), String> {
     let archive = archive()?;
     println!("cargo:rerun-if-changed={}", archive.display());
     let folder = PathBuf::from(variable("OUT_DIR")?);
-    fs::copy(&archive, folder.join("libtsconfig_questions_proved.a")).map_err(|error| {
-        format!(
-            "The library {} cannot be copied: {error}.",
-            archive.display()
-        )
-    })?;
+    fs::copy(&archive, folder.join("libtsconfig_questions_proved.a"))
+        .map_err(|error| format!("The library {} cannot be copied: {error}.", archive.display()))?;
     println!("cargo:rustc-link-search=native={}", folder.display());
     println!("cargo:rustc-link-lib=static=tsconfig_questions_proved");
     Ok(())
@@ -33,9 +29,7 @@ fn link() -> Result<(), String> {
 /// The file that the variable names, or that file in the folder that it names; without it the one that `rt` writes in this repository.
 fn archive() -> Result<PathBuf, String> {
     let file = match env::var_os(VARIABLE).filter(|place| !place.is_empty()) {
-        None => Path::new(&variable("CARGO_MANIFEST_DIR")?)
-            .join("../../target/staticlib")
-            .join(FILE),
+        None => Path::new(&variable("CARGO_MANIFEST_DIR")?).join("../../target/staticlib").join(FILE),
         Some(place) if Path::new(&place).is_dir() => Path::new(&place).join(FILE),
         Some(place) => PathBuf::from(place),
     };
@@ -49,6 +43,5 @@ fn archive() -> Result<PathBuf, String> {
 }
 
 fn variable(name: &str) -> Result<String, String> {
-    env::var(name)
-        .map_err(|_| format!("Cargo does not give the variable {name} to the build script."))
+    env::var(name).map_err(|_| format!("Cargo does not give the variable {name} to the build script."))
 }

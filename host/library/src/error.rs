@@ -32,8 +32,13 @@ impl fmt::Display for Refusal {
             3 => write!(f, "the command at offset {place} is out of order, is repeated, or has an id or value out of range"),
             4 => write!(f, "the string of the command at offset {place} breaks its rule or leaves the text"),
             5 => write!(f, "the command at offset {place} is one more than there may be"),
-            6 => write!(f, "the command at offset {place} gives a path or a key that was given before, or a path above or below another record's"),
-            7 => write!(f, "a path that was asked is not normal or holds `?` or `#`, or a path or the specifier breaks the rule of strings"),
+            6 => write!(
+                f,
+                "the command at offset {place} gives a path or a key that was given before, or a path above or below another record's"
+            ),
+            7 => {
+                write!(f, "a path that was asked is not normal or holds `?` or `#`, or a path or the specifier breaks the rule of strings")
+            }
             8 if place == ASKED_PATH => write!(f, "the asked path means no config of the book"),
             8 => write!(f, "record {place} extends or references a config that is not in the book"),
             9 => write!(f, "record {place} extends itself, by way of what it extends"),
@@ -67,10 +72,7 @@ impl fmt::Display for Error {
         match self {
             Self::Refused(refusal) => refusal.fmt(f),
             Self::NoMemory(bytes) => write!(f, "there is no memory for an output of {bytes} bytes"),
-            Self::Malformed => write!(
-                f,
-                "the linked library does not answer in the form that it promises"
-            ),
+            Self::Malformed => write!(f, "the linked library does not answer in the form that it promises"),
         }
     }
 }

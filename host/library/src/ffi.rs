@@ -14,7 +14,7 @@ pub struct Numbers {
 }
 
 // A byte slice is handed over as two parameters, its address and its length.
-extern "C" {
+unsafe extern "C" {
     fn tsconfig_build(
         commands: *const u8,
         commands_len: usize,
@@ -69,39 +69,15 @@ extern "C" {
 
 pub fn build(commands: &[u8], text: &[u8], path: &[u8], out: &mut [u8]) -> Numbers {
     unsafe {
-        tsconfig_build(
-            commands.as_ptr(),
-            commands.len(),
-            text.as_ptr(),
-            text.len(),
-            path.as_ptr(),
-            path.len(),
-            out.as_mut_ptr(),
-            out.len(),
-        )
+        tsconfig_build(commands.as_ptr(), commands.len(), text.as_ptr(), text.len(), path.as_ptr(), path.len(), out.as_mut_ptr(), out.len())
     }
 }
 
 pub fn owner(commands: &[u8], text: &[u8], path: &[u8]) -> Numbers {
-    unsafe {
-        tsconfig_owner(
-            commands.as_ptr(),
-            commands.len(),
-            text.as_ptr(),
-            text.len(),
-            path.as_ptr(),
-            path.len(),
-        )
-    }
+    unsafe { tsconfig_owner(commands.as_ptr(), commands.len(), text.as_ptr(), text.len(), path.as_ptr(), path.len()) }
 }
 
-pub fn candidates(
-    commands: &[u8],
-    text: &[u8],
-    path: &[u8],
-    specifier: &[u8],
-    out: &mut [u8],
-) -> Numbers {
+pub fn candidates(commands: &[u8], text: &[u8], path: &[u8], specifier: &[u8], out: &mut [u8]) -> Numbers {
     unsafe {
         tsconfig_candidates(
             commands.as_ptr(),
@@ -118,14 +94,7 @@ pub fn candidates(
     }
 }
 
-pub fn tries(
-    commands: &[u8],
-    text: &[u8],
-    path: &[u8],
-    directory: &[u8],
-    specifier: &[u8],
-    out: &mut [u8],
-) -> Numbers {
+pub fn tries(commands: &[u8], text: &[u8], path: &[u8], directory: &[u8], specifier: &[u8], out: &mut [u8]) -> Numbers {
     unsafe {
         tsconfig_tries(
             commands.as_ptr(),

@@ -5,13 +5,18 @@
 
 #![deny(unsafe_code)]
 
+mod builder;
+mod command;
 mod error;
 #[allow(unsafe_code)]
 mod ffi;
+pub mod form;
+mod lines;
 mod questions;
+mod rules;
 
-pub use error::{Error, Refusal, ASKED_PATH};
-pub use questions::{
-    build, build_into, candidates, candidates_into, owner, tries, tries_into, Book, Built, Owner,
-    Paths,
-};
+pub use builder::{BookBuf, BookBuilder, BuildError, OptionKey};
+pub use command::{FLAGS, TEXT_OPTIONS};
+pub use error::{ASKED_PATH, Error, Refusal};
+pub use lines::answer_line;
+pub use questions::{Book, Built, Owner, Paths, build, build_into, candidates, candidates_into, owner, tries, tries_into};

@@ -36,9 +36,7 @@ impl<B: AsRef<[u8]>> Built<B> {
     pub fn lines(&self) -> impl Iterator<Item = &[u8]> {
         let listing = self.listing.as_ref();
         let listing = listing.strip_suffix(b"\n").unwrap_or(listing);
-        listing
-            .split(|byte| *byte == b'\n')
-            .filter(|line| !line.is_empty())
+        listing.split(|byte| *byte == b'\n').filter(|line| !line.is_empty())
     }
 }
 
@@ -61,10 +59,7 @@ pub struct Paths<'a> {
 impl<'a> Paths<'a> {
     /// Each path is its length in two bytes, low byte first, and its bytes. `None` where the bytes are not `count` such paths.
     fn read(bytes: &'a [u8], count: u64) -> Option<Self> {
-        let paths = Self {
-            rest: bytes,
-            count: usize::try_from(count).ok()?,
-        };
+        let paths = Self { rest: bytes, count: usize::try_from(count).ok()? };
         let mut left = paths.clone();
         for _ in 0..paths.count {
             left.next()?;
@@ -95,10 +90,7 @@ fn answered(numbers: Numbers) -> Result<Numbers, Error> {
     if numbers.number == 0 {
         return Ok(numbers);
     }
-    Err(Error::Refused(Refusal {
-        number: numbers.number,
-        place: numbers.place,
-    }))
+    Err(Error::Refused(Refusal { number: numbers.number, place: numbers.place }))
 }
 
 /// The bytes of `out` that an answer says are written.
@@ -126,8 +118,7 @@ fn with_output(ask: impl Fn(&mut [u8]) -> Numbers) -> Result<(Numbers, Vec<u8>),
 fn output(bytes: u64) -> Result<Vec<u8>, Error> {
     let size = usize::try_from(bytes).map_err(|_| Error::NoMemory(bytes))?;
     let mut out = Vec::new();
-    out.try_reserve_exact(size)
-        .map_err(|_| Error::NoMemory(bytes))?;
+    out.try_reserve_exact(size).map_err(|_| Error::NoMemory(bytes))?;
     out.resize(size, 0);
     Ok(out)
 }
@@ -151,11 +142,7 @@ fn owned(bytes: &[u8], count: u64) -> Result<Vec<Vec<u8>>, Error> {
 /// ```
 pub fn build(book: Book<'_>, path: &[u8]) -> Result<Built<Vec<u8>>, Error> {
     let (numbers, listing) = with_output(|out| ffi::build(book.commands, book.text, path, out))?;
-    Ok(Built {
-        record: numbers.first,
-        merges: numbers.second,
-        listing,
-    })
+    Ok(Built { record: numbers.first, merges: numbers.second, listing })
 }
 
 /// As [`build`], with the listing written to `out`. Where it is refused, by 13 if `out` is too short, `out` is as it was.
@@ -169,18 +156,10 @@ pub fn build(book: Book<'_>, path: &[u8]) -> Result<Built<Vec<u8>>, Error> {
 /// let Err(Error::Refused(refusal)) = build_into(book, b"/p", &mut out[..7]) else { panic!() };
 /// assert_eq!((refusal.number, refusal.place), (13, 8));
 /// ```
-pub fn build_into<'o>(
-    book: Book<'_>,
-    path: &[u8],
-    out: &'o mut [u8],
-) -> Result<Built<&'o [u8]>, Error> {
+pub fn build_into<'o>(book: Book<'_>, path: &[u8], out: &'o mut [u8]) -> Result<Built<&'o [u8]>, Error> {
     let numbers = answered(ffi::build(book.commands, book.text, path, out))?;
     let listing = written(out, numbers)?;
-    Ok(Built {
-        record: numbers.first,
-        merges: numbers.second,
-        listing,
-    })
+    Ok(Built { record: numbers.first, merges: numbers.second, listing })
 }
 
 /// The config that owns a file, and its solution: the reference that claims the file where there is one, else the config itself.
@@ -210,8 +189,7 @@ pub fn owner(book: Book<'_>, path: &[u8]) -> Result<Option<Owner>, Error> {
 /// assert_eq!(candidates(book, b"/p", b"m"), Ok(vec![b"/p/src/m".to_vec()]));
 /// ```
 pub fn candidates(book: Book<'_>, config: &[u8], specifier: &[u8]) -> Result<Vec<Vec<u8>>, Error> {
-    let (numbers, bytes) =
-        with_output(|out| ffi::candidates(book.commands, book.text, config, specifier, out))?;
+    let (numbers, bytes) = with_output(|out| ffi::candidates(book.commands, book.text, config, specifier, out))?;
     owned(&bytes, numbers.first)
 }
 
@@ -225,49 +203,19 @@ pub fn candidates(book: Book<'_>, config: &[u8], specifier: &[u8]) -> Result<Vec
 /// assert_eq!(paths.next(), Some(b"/p/src/m".as_slice()));
 /// assert_eq!(paths.next(), None);
 /// ```
-pub fn candidates_into<'o>(
-    book: Book<'_>,
-    config: &[u8],
-    specifier: &[u8],
-    out: &'o mut [u8],
-) -> Result<Paths<'o>, Error> {
-    let numbers = answered(ffi::candidates(
-        book.commands,
-        book.text,
-        config,
-        specifier,
-        out,
-    ))?;
+pub fn candidates_into<'o>(book: Book<'_>, config: &[u8], specifier: &[u8], out: &'o mut [u8]) -> Result<Paths<'o>, Error> {
+    let numbers = answered(ffi::candidates(book.commands, book.text, config, specifier, out))?;
     Paths::read(written(out, numbers)?, numbers.first).ok_or(Error::Malformed)
 }
 
 /// The paths that would be tested for a specifier that stands in a file of `directory`, in order.
-pub fn tries(
-    book: Book<'_>,
-    config: &[u8],
-    directory: &[u8],
-    specifier: &[u8],
-) -> Result<Vec<Vec<u8>>, Error> {
-    let (numbers, bytes) =
-        with_output(|out| ffi::tries(book.commands, book.text, config, directory, specifier, out))?;
+pub fn tries(book: Book<'_>, config: &[u8], directory: &[u8], specifier: &[u8]) -> Result<Vec<Vec<u8>>, Error> {
+    let (numbers, bytes) = with_output(|out| ffi::tries(book.commands, book.text, config, directory, specifier, out))?;
     owned(&bytes, numbers.first)
 }
 
 /// As [`tries`], with the paths written to `out`. Where it is refused, by 13 if `out` is too short, `out` is as it was.
-pub fn tries_into<'o>(
-    book: Book<'_>,
-    config: &[u8],
-    directory: &[u8],
-    specifier: &[u8],
-    out: &'o mut [u8],
-) -> Result<Paths<'o>, Error> {
-    let numbers = answered(ffi::tries(
-        book.commands,
-        book.text,
-        config,
-        directory,
-        specifier,
-        out,
-    ))?;
+pub fn tries_into<'o>(book: Book<'_>, config: &[u8], directory: &[u8], specifier: &[u8], out: &'o mut [u8]) -> Result<Paths<'o>, Error> {
+    let numbers = answered(ffi::tries(book.commands, book.text, config, directory, specifier, out))?;
     Paths::read(written(out, numbers)?, numbers.first).ok_or(Error::Malformed)
 }
