@@ -105,10 +105,14 @@ impl BuildError {
     fn subject(&self) -> String {
         let word = self.field.word();
         let value = String::from_utf8_lossy(&self.value);
+        let record = match self.rule {
+            Rule::NoRecord => String::new(),
+            _ => format!(" of record {}", self.record),
+        };
         match self.field {
-            Field::Begin => format!("the path `{value}` of record {}", self.record),
-            _ if self.value.is_empty() => format!("`{word}` of record {}", self.record),
-            _ => format!("`{word}` `{value}` of record {}", self.record),
+            Field::Begin => format!("the path `{value}`{record}"),
+            _ if self.value.is_empty() => format!("`{word}`{record}"),
+            _ => format!("`{word}` `{value}`{record}"),
         }
     }
 }
@@ -482,9 +486,10 @@ impl BookBuilder {
     fn error(&self, command: &Command<'_>, rule: Rule) -> BuildError {
         let current = self.paths.len().saturating_sub(1);
         let record = if command.field == Field::Begin { self.paths.len() } else { current };
-        let value = match command.name() {
-            Some(name) => name.as_bytes().to_vec(),
-            None => command.string.to_vec(),
+        let value = match (&rule, command.name()) {
+            (Rule::NoSuchOption(_), _) => vec![],
+            (_, Some(name)) => name.as_bytes().to_vec(),
+            (_, None) => command.string.to_vec(),
         };
         BuildError { record, field: command.field, value, rule }
     }

@@ -5,6 +5,8 @@
 
 #![deny(unsafe_code)]
 
+#[cfg(test)]
+mod agreement;
 mod builder;
 mod command;
 mod error;
@@ -12,7 +14,11 @@ mod error;
 mod ffi;
 pub mod form;
 mod lines;
+#[cfg(test)]
+mod made;
 mod questions;
+#[cfg(test)]
+mod round_trips;
 mod rules;
 
 pub use builder::{BookBuf, BookBuilder, BuildError, OptionKey};
