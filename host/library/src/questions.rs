@@ -208,14 +208,76 @@ pub fn candidates_into<'o>(book: Book<'_>, config: &[u8], specifier: &[u8], out:
     Paths::read(written(out, numbers)?, numbers.first).ok_or(Error::Malformed)
 }
 
-/// The paths that would be tested for a specifier that stands in a file of `directory`, in order.
+/// The paths that would be tested for a specifier that stands in a file of `directory`, in order, as if that directory alone existed. There are
+/// none inside `node_modules`.
+///
+/// ```
+/// # use tsconfig_questions::{form, tries};
+/// let book = form::parse("record /p/tsconfig.json\n rootDirs src\n rootDirs gen\n").unwrap();
+/// let paths = tries(book.book(), b"/p", b"/p/src/view", b"./m").unwrap();
+/// assert_eq!(paths, [b"/p/src/view/m", b"/p/gen/view/m"]);
+/// ```
 pub fn tries(book: Book<'_>, config: &[u8], directory: &[u8], specifier: &[u8]) -> Result<Vec<Vec<u8>>, Error> {
     let (numbers, bytes) = with_output(|out| ffi::tries(book.commands, book.text, config, directory, specifier, out))?;
     owned(&bytes, numbers.first)
 }
 
 /// As [`tries`], with the paths written to `out`. Where it is refused, by 13 if `out` is too short, `out` is as it was.
+///
+/// ```
+/// # use tsconfig_questions::{form, tries_into};
+/// let book = form::parse("record /p/tsconfig.json\n baseUrl lib\n").unwrap();
+/// let mut out = [0; 100];
+/// let mut paths = tries_into(book.book(), b"/p", b"/p/src", b"m", &mut out).unwrap();
+/// assert_eq!(paths.next(), Some(b"/p/lib/m".as_slice()));
+/// ```
 pub fn tries_into<'o>(book: Book<'_>, config: &[u8], directory: &[u8], specifier: &[u8], out: &'o mut [u8]) -> Result<Paths<'o>, Error> {
     let numbers = answered(ffi::tries(book.commands, book.text, config, directory, specifier, out))?;
     Paths::read(written(out, numbers)?, numbers.first).ok_or(Error::Malformed)
+}
+
+#[cfg(test)]
+mod tests {
+    use super::*;
+
+    fn all(bytes: &[u8], count: u64) -> Option<Vec<&[u8]>> {
+        Paths::read(bytes, count).map(Iterator::collect)
+    }
+
+    #[test]
+    fn paths_are_read_as_they_were_laid_out() {
+        assert_eq!(all(b"", 0), Some(vec![]));
+        assert_eq!(all(b"\x02\x00/a\x00\x00", 2), Some(vec![b"/a".as_slice(), b""]));
+        let long = [b"\x2c\x01".as_slice(), &[b'a'; 300]].concat();
+        assert_eq!(all(&long, 1), Some(vec![&long[2..]]));
+        assert_eq!(Paths::read(&long, 1).map(|paths| paths.len()), Some(1));
+    }
+
+    #[test]
+    fn bytes_that_are_no_such_paths() {
+        for (bytes, count) in
+            [(b"".as_slice(), 1), (b"\x02\x00/a", 0), (b"\x02\x00/a", 2), (b"\x02\x00/", 1), (b"\x02", 1), (b"", u64::MAX)]
+        {
+            assert_eq!(all(bytes, count), None, "{bytes:?} {count}");
+        }
+    }
+
+    fn numbers(number: u64, place: u64, bytes: u64) -> Numbers {
+        Numbers { number, place, first: 0, second: 0, bytes }
+    }
+
+    #[test]
+    fn numbers_that_no_function_gives() {
+        assert_eq!(with_output(|_| numbers(0, 0, u64::MAX)), Err(Error::Malformed));
+        assert_eq!(with_output(|_| numbers(13, 5000, 0)), Err(Error::Malformed));
+        assert_eq!(with_output(|_| numbers(13, u64::MAX, 0)), Err(Error::NoMemory(u64::MAX)));
+        let told = Refusal { number: 99, place: 1 }.to_string();
+        assert_eq!(told, "the refusal has no meaning in the table, at place 1 (refusal 99)");
+    }
+
+    #[test]
+    fn a_second_output_has_the_bytes_needed() {
+        let ask = |out: &mut [u8]| if out.len() < 5000 { numbers(13, 5000, 0) } else { numbers(0, 0, out.len() as u64) };
+        assert_eq!(with_output(ask).map(|(_, out)| out.len()), Ok(5000));
+    }
 }
