@@ -17,7 +17,7 @@ fn main() -> Result<(), Box<dyn Error>> {
     }
     for file in ["/t/st/src/a.ts", "/t/st/a.ts"] {
         match owner(book, file.as_bytes())? {
-            Some(owner) => println!("{file} is owned by record {}, and its solution is record {}.", owner.found, owner.solution),
+            Some(owner) => println!("{file} is owned by {}.", book.path_of(owner.found).unwrap_or(b"a record").escape_ascii()),
             None => println!("No config owns {file}."),
         }
     }

@@ -1,5 +1,6 @@
 //! One safe function a question.
 
+use crate::command::{Command, Field};
 use crate::error::{Error, Refusal};
 use crate::ffi::{self, Numbers};
 
@@ -18,6 +19,32 @@ pub struct Book<'a> {
     pub commands: &'a [u8],
     /// The bytes that the commands' strings are parts of.
     pub text: &'a [u8],
+}
+
+impl<'a> Book<'a> {
+    /// The path of a record by its number, as the answers and refusals give it. `None` where there is no such record.
+    ///
+    /// ```
+    /// # use tsconfig_questions::{form, owner};
+    /// let book = form::parse("record /a/tsconfig.json\nrecord /b/tsconfig.json\n").unwrap();
+    /// let owner = owner(book.book(), b"/b/x.ts").unwrap().unwrap();
+    /// assert_eq!(book.book().path_of(owner.found), Some(b"/b/tsconfig.json".as_slice()));
+    /// assert_eq!(book.book().path_of(2), None);
+    /// ```
+    pub fn path_of(self, record: u64) -> Option<&'a [u8]> {
+        let mut left = record;
+        let mut at = 0;
+        loop {
+            let (command, next) = Command::read(self, at)?;
+            if command.field == Field::Begin {
+                if left == 0 {
+                    return Some(command.string);
+                }
+                left -= 1;
+            }
+            at = next;
+        }
+    }
 }
 
 /// A config that was built: `B` is how its listing is held, `Vec<u8>` or `&[u8]`.
