@@ -17,6 +17,8 @@ fi
 RUSTFLAGS=${RUSTFLAGS:--D warnings}
 RUSTDOCFLAGS=${RUSTDOCFLAGS:--D warnings}
 export RUSTFLAGS RUSTDOCFLAGS
+if cargo fmt --version > /dev/null 2>&1; then cargo fmt --check; fi
+if cargo clippy --version > /dev/null 2>&1; then cargo clippy --offline --quiet --all-targets; fi
 cargo test --offline --quiet
 cargo doc --offline --quiet --no-deps
 cargo run --offline --quiet --example stations | diff examples/stations.expected -
