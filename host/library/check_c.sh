@@ -13,6 +13,7 @@ trap 'rm -rf "$scratch"' EXIT
 flags="-std=c11 -Wall -Wextra -Wpedantic -Werror"
 
 cc $flags -I "$here/include" -c -o "$scratch/header.o" "$here/tests/header.c"
+if command -v c++ > /dev/null; then c++ -Wall -Wextra -Wpedantic -Werror -fsyntax-only -x c++ "$here/include/tsconfig_questions.h"; fi
 cc $flags -O2 -I "$here/include" -o "$scratch/ask" "$here/examples/ask.c" "$library"
 
 book=$here/../../crates/ask/data

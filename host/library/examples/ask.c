@@ -39,7 +39,7 @@ static int refused(const char *question, tsconfig_numbers answer) {
 static void say_build(const char *config) {
     tsconfig_numbers built = tsconfig_build(commands, commands_len, text, text_len, bytes(config), strlen(config), out, sizeof out);
     if (refused("build", built)) return;
-    printf("%s is record %llu, made by %llu merges:\n", config, (unsigned long long)built.first, (unsigned long long)built.second);
+    printf("%s is record %llu (merges: %llu):\n", config, (unsigned long long)built.first, (unsigned long long)built.second);
     fwrite(out, 1, (size_t)built.bytes, stdout);
 }
 
@@ -58,8 +58,7 @@ static void say_paths(uint64_t count) {
     const uint8_t *at = out;
     for (uint64_t i = 0; i < count; i++) {
         size_t len = at[0] + (size_t)at[1] * 256;
-        fwrite(at + 2, 1, len, stdout);
-        putchar('\n');
+        printf("%llu. %.*s\n", (unsigned long long)i + 1, (int)len, (const char *)at + 2);
         at += 2 + len;
     }
 }
@@ -67,14 +66,14 @@ static void say_paths(uint64_t count) {
 static void say_candidates(const char *config, const char *specifier) {
     tsconfig_numbers found = tsconfig_candidates(commands, commands_len, text, text_len, bytes(config), strlen(config), bytes(specifier), strlen(specifier), out, sizeof out);
     if (refused("candidates", found)) return;
-    printf("For %s, %s stands for %llu paths:\n", config, specifier, (unsigned long long)found.first);
+    printf("By %s, %s stands for (paths: %llu):\n", config, specifier, (unsigned long long)found.first);
     say_paths(found.first);
 }
 
 static void say_tries(const char *config, const char *directory, const char *specifier) {
     tsconfig_numbers tried = tsconfig_tries(commands, commands_len, text, text_len, bytes(config), strlen(config), bytes(directory), strlen(directory), bytes(specifier), strlen(specifier), out, sizeof out);
     if (refused("tries", tried)) return;
-    printf("For a file in %s, %s is looked for at %llu paths:\n", directory, specifier, (unsigned long long)tried.first);
+    printf("From %s, %s is looked for at (paths: %llu):\n", directory, specifier, (unsigned long long)tried.first);
     say_paths(tried.first);
 }
 

@@ -11,7 +11,7 @@ fn main() -> Result<(), Box<dyn Error>> {
     let book = book.book();
 
     let built = build(book, CONFIG)?;
-    println!("The station's config is record {}, made by {} merges:", built.record, built.merges);
+    println!("The station's config is record {} (merges: {}):", built.record, built.merges);
     for line in built.lines() {
         println!("  {}", line.escape_ascii());
     }

@@ -139,7 +139,10 @@ fn unknown(word: &[u8], rest: &[u8]) -> String {
 }
 
 fn option_key(name: &str) -> OptionKey<'_> {
-    name.parse().map_or(OptionKey::Name(name), OptionKey::Id)
+    match name.parse() {
+        Ok(id) if !name.starts_with('+') => OptionKey::Id(id),
+        _ => OptionKey::Name(name),
+    }
 }
 
 fn truth(value: &[u8]) -> Result<bool, String> {

@@ -142,6 +142,7 @@ fn errors_say_the_line_and_what_is_wrong() {
         ("record /a\nfiles a\\b", "line 2: `files` `a\\b` of record 0 holds the byte 5C, which no string may have"),
         ("record /a\nflag strict yes", "line 2: a flag is `true` or `false`, and not `yes`"),
         ("record /a\nflag lax true", "line 2: `flag` of record 0 names `lax`, and there is no such option"),
+        ("record /a\nflag +2 true", "line 2: `flag` of record 0 names `+2`, and there is no such option"),
         ("record /a\nflag 11 true", "line 2: `flag` of record 0 names `11`, and there is no such option"),
         ("record /a\ntext jsx", "line 2: a value is missing (\"\" is the empty string)"),
         ("record /a\nraw", "line 2: `raw` begins no line of a book"),
