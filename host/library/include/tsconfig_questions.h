@@ -4,7 +4,7 @@
  * A book is two slices. `commands` has the records, at most 32,768 bytes; `text` has the bytes that their strings are parts of, at most
  * 65,535. Every slice is an address and a length, and may hold any bytes: what is no book, no path or no specifier is refused. No address
  * may be NULL, not even that of a slice of length 0, and `out` overlaps none of the others. The functions allocate nothing, keep nothing
- * after they return, and may be called from several threads at once.
+ * after they return, may be called from several threads at once, and the deepest calls found need less than 128 KiB of stack.
  *
  * Where `number` is not 0 the question is refused, and `out` has its old bytes:
  *

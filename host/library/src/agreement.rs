@@ -274,14 +274,23 @@ fn a_string_in_the_text_is_shared() {
 }
 
 #[test]
-fn a_refused_field_adds_nothing() {
+fn a_refused_call_adds_nothing() {
     let mut builder = BookBuilder::new();
     builder.begin("/p/tsconfig.json").unwrap();
     let before = builder.clone().finish();
     builder.begin("/p/tsconfig.json").unwrap_err();
+    builder.files(["a", "na", "\n"]).unwrap_err();
     builder.key("a\n", ["t"]).unwrap_err();
+    builder.key("k", ["t", "\n"]).unwrap_err();
     builder.base_url("\\").unwrap_err();
     builder.flag("sloppy", true).unwrap_err();
     builder.text_option(7, "x").unwrap_err();
-    assert_eq!(builder.finish(), before);
+    assert_eq!(builder.clone().finish(), before);
+
+    // What was taken back is not there to be shared.
+    builder.files(["b", "na", "a"]).unwrap().key("k", ["t"]).unwrap();
+    let book = builder.finish();
+    assert_eq!(book.text, b"/p/tsconfig.jsonbnak");
+    let strings: Vec<Vec<u8>> = made::decode(&book).into_iter().map(|command| command.string).collect();
+    assert_eq!(strings, [&b"/p/tsconfig.json"[..], b"", b"b", b"na", b"a", b"", b"k", b"t", b""]);
 }

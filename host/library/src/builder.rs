@@ -177,7 +177,7 @@ impl OpenRecord {
 
 /// Makes a book field by field, with the limits and rules that the questions check.
 ///
-/// A field that breaks a rule is an error and adds nothing. A string that already stands in the text is shared.
+/// A call that breaks a rule is an error and adds nothing. A string that already stands in the text is shared.
 ///
 /// ```
 /// use tsconfig_questions::{candidates, BookBuilder, BuildError};
@@ -225,17 +225,12 @@ impl BookBuilder {
     /// assert_eq!(error.to_string(), "the path `/b/tsconfig.json/c` of record 2 lies under the path of record 1");
     /// ```
     pub fn begin(&mut self, path: impl AsRef<[u8]>) -> Done<'_> {
-        let command = Command::with(Field::Begin, path.as_ref());
-        let Some(before) = self.open.take() else {
-            return self.push(&command);
-        };
-        self.commands.push(Field::End as u8);
-        if let Err(error) = self.push(&command) {
-            self.commands.pop();
-            self.open = Some(before);
-            return Err(error);
-        }
-        Ok(self)
+        self.whole(|builder| {
+            if builder.open.take().is_some() {
+                builder.commands.push(Field::End as u8);
+            }
+            builder.push(&Command::with(Field::Begin, path.as_ref())).map(drop)
+        })
     }
 
     /// Makes `files` present with these items, perhaps none.
@@ -325,11 +320,11 @@ impl BookBuilder {
     /// assert_eq!(paths, Ok(vec![b"/p/src/m".to_vec(), b"/p/gen/m".to_vec()]));
     /// ```
     pub fn key(&mut self, key: impl AsRef<[u8]>, targets: impl IntoIterator<Item = impl AsRef<[u8]>>) -> Done<'_> {
-        self.item(&Command::with(Field::Key, key.as_ref()))?;
-        for target in targets {
-            self.push(&Command::with(Field::Target, target.as_ref()))?;
-        }
-        Ok(self)
+        self.whole(|builder| {
+            builder.item(&Command::with(Field::Key, key.as_ref()))?;
+            let mut targets = targets.into_iter();
+            targets.try_for_each(|target| builder.push(&Command::with(Field::Target, target.as_ref())).map(drop))
+        })
     }
 
     /// Adds a reference.
@@ -431,11 +426,10 @@ impl BookBuilder {
     }
 
     fn list(&mut self, list: Field, item: Field, items: impl IntoIterator<Item = impl AsRef<[u8]>>) -> Done<'_> {
-        self.push(&Command::plain(list))?;
-        for string in items {
-            self.push(&Command::with(item, string.as_ref()))?;
-        }
-        Ok(self)
+        self.whole(|builder| {
+            builder.push(&Command::plain(list))?;
+            items.into_iter().try_for_each(|string| builder.push(&Command::with(item, string.as_ref())).map(drop))
+        })
     }
 
     /// Adds an item of a list, and makes the list present where it is not.
@@ -444,11 +438,17 @@ impl BookBuilder {
         let Some(list) = command.field.opener().filter(missing) else {
             return self.push(command);
         };
-        let before = self.open.clone();
-        self.push(&Command::plain(list))?;
-        if let Err(error) = self.push(command) {
-            self.commands.pop();
-            self.open = before;
+        self.whole(|builder| builder.push(&Command::plain(list))?.push(command).map(drop))
+    }
+
+    /// Does what it is told, or nothing of it where there is an error.
+    fn whole(&mut self, act: impl FnOnce(&mut Self) -> Result<(), BuildError>) -> Done<'_> {
+        let (commands, text, open) = (self.commands.len(), self.text.len(), self.open.clone());
+        if let Err(error) = act(self) {
+            self.commands.truncate(commands);
+            self.text.truncate(text);
+            self.places.retain(|string, start| usize::from(*start) + string.len() <= text);
+            self.open = open;
             return Err(error);
         }
         Ok(self)

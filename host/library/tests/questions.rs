@@ -4,7 +4,8 @@ use std::fs;
 use std::path::{Path, PathBuf};
 
 use tsconfig_questions::{
-    ASKED_PATH, Book, BookBuf, BookBuilder, Error, Owner, Refusal, answer_line, build, build_into, candidates, candidates_into, form, owner,
+    ASKED_PATH, Book, BookBuf, BookBuilder, Error, Owner, Refusal, answer_line, build, build_into, candidates, candidates_into, form,
+    owner, tries,
 };
 
 fn repository(file: &str) -> PathBuf {
@@ -181,4 +182,26 @@ fn no_bytes_stop_a_question() {
         }
     }
     assert!(accepted > 0);
+}
+
+/// A chain of 64 configs, and the pattern with the most stars: the calls that go deepest.
+#[test]
+fn a_stack_of_128_kib_is_enough() {
+    let mut builder = BookBuilder::new();
+    builder.begin("/tsconfig.json").unwrap().extends("./1").unwrap();
+    for i in 1..63 {
+        builder.begin(format!("/{i}.json")).unwrap().extends(format!("./{}", i + 1)).unwrap();
+    }
+    let stars = "*a".repeat(255);
+    builder.begin("/63.json").unwrap().include([&stars]).unwrap().base_url("src").unwrap();
+    let book = builder.finish();
+    let asked = move || {
+        let book = book.book();
+        assert_eq!(build(book, b"/").unwrap().merges, 63);
+        assert_eq!(candidates(book, b"/", b"m"), Ok(vec![b"/src/m".to_vec()]));
+        assert_eq!(tries(book, b"/", b"/src", b"m"), Ok(vec![b"/src/m".to_vec()]));
+        let file = ["/", &"a".repeat(300), ".ts"].concat();
+        assert_eq!(owner(book, file.as_bytes()), Ok(None));
+    };
+    std::thread::Builder::new().stack_size(128 * 1024).spawn(asked).unwrap().join().unwrap();
 }
