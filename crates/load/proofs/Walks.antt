@@ -206,28 +206,31 @@ module _ (rs : List Parsed) (on : List Bool) (c n : ℕ) (codes : List ℕ) wher
       next : Gives → Gives
       next z = z >>= λ r. walks rs on c n codes (k - 1) (merge (configOf rs row) (r .config)) (counted (r .state))
 
-      module _ (t : List ℕ) (u : Told)
-          (p : Tells rs on (getD codes (k - 1) 0) (m + 8 * pending on table) (parent (load (seen rs) (onOf on)) c (entryOf n (getD codes (k - 1) 0)) (stateOf rs table m)) (rowAt t (getD codes (k - 1) 0)) t u) where
-        meets : walks rs on c n codes k (configOf rs row) (stateOf rs table m) ≡ next (parent (load (seen rs) (onOf on)) c (entryOf n (getD codes (k - 1) 0)) (stateOf rs table m))
+      -- e is the code that is read
+      module _ (e : ℕ) (t : List ℕ) (u : Told)
+          (p : Tells rs on e (m + 8 * pending on table) (parent (load (seen rs) (onOf on)) c (entryOf n e) (stateOf rs table m)) (rowAt t e) t u) (is : e ≡ getD codes (k - 1) 0) where
+        meets : walks rs on c n codes k (configOf rs row) (stateOf rs table m) ≡ next (parent (load (seen rs) (onOf on)) c (entryOf n e) (stateOf rs table m))
         unfolding next
-        meets = ap (λ (l : List Entry). walk (load (seen rs) (onOf on)) c l (configOf rs row) (stateOf rs table m)) head
+        meets =
+            ap (λ (l : List Entry). walk (load (seen rs) (onOf on)) c l (configOf rs row) (stateOf rs table m)) head
+            ∙ ap (λ (x : ℕ). next (parent (load (seen rs) (onOf on)) c (entryOf n x) (stateOf rs table m))) (sym is)
 
         pub walk-refused : (a b : ℕ) → u ≡ Refused a b → walks rs on c n codes k (configOf rs row) (stateOf rs table m) ≡ refused a b
         unfolding next
-        walk-refused a b e = meets ∙ ap next (told-refused rs on (getD codes (k - 1) 0) (rowAt t (getD codes (k - 1) 0)) t (m + 8 * pending on table) _ u a b e p)
+        walk-refused a b f = meets ∙ ap next (told-refused rs on e (rowAt t e) t (m + 8 * pending on table) _ u a b f p)
 
-        module _ (d : ℕ) (e : u ≡ Done d) (v : ℕ) (is : v ≡ getD codes (k - 1) 0) where
+        module _ (d : ℕ) (f : u ≡ Done d) (v : ℕ) (byte : v ≡ e) where
           -- the parent is there
-          pub walk-went : Went rs on v (m + 8 * pending on table) (parent (load (seen rs) (onOf on)) c (entryOf n (getD codes (k - 1) 0)) (stateOf rs table m)) (rowAt t v) t d
-          walk-went = rw is (told-done rs on (getD codes (k - 1) 0) (rowAt t (getD codes (k - 1) 0)) t (m + 8 * pending on table) _ u d e p)
+          pub walk-went : Went rs on v (m + 8 * pending on table) (parent (load (seen rs) (onOf on)) c (entryOf n e) (stateOf rs table m)) (rowAt t v) t d
+          walk-went = rw byte (told-done rs on e (rowAt t e) t (m + 8 * pending on table) _ u d f p)
 
           pub walk-on : (row₂ : List ℕ) → configOf rs row₂ ≡ merge (configOf rs row) (configOf rs (rowAt t v)) → (row₃ table₃ : List ℕ) (r : Told) →
               Tells rs on c (d + 1 + (k - 1) + 8 * pending on t) (walks rs on c n codes (k - 1) (configOf rs row₂) (stateOf rs t (d + 1))) row₃ table₃ r →
               Tells rs on c (m + k + 8 * pending on table) (walks rs on c n codes k (configOf rs row) (stateOf rs table m)) row₃ table₃ r
           unfolding next
-          walk-on row₂ f row₃ table₃ r q =
+          walk-on row₂ g row₃ table₃ r q =
               told-same rs on c row₃ table₃ (d + 1 + (k - 1) + 8 * pending on t) (m + k + 8 * pending on table) _ _ r
-              (ap₂ (walks rs on c n codes (k - 1)) f (state-counted rs t d) ∙ sym (meets ∙ ap next (walk-went .answer)))
+              (ap₂ (walks rs on c n codes (k - 1)) g (state-counted rs t d) ∙ sym (meets ∙ ap next (walk-went .answer)))
               (omega (arith, more, walk-went .few)) q
 
 -- the codes that are handed on are those that are walked over

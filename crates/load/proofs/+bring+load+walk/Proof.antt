@@ -1,3 +1,4 @@
+use mathlib.Core.Path.{refl}
 use Rattle.rows.specs.Records.{recordsOf}
 use Rattle.load.proofs.Dirs.{few-records, inside-records}
 use Rattle.load.proofs.Walks.{spare, spare-set, bring-missing, bring-bare, bring-empty, bring-held, bring-loaded, bring-byte, walk-none, walk-refused, walk-went, walk-on, load-on, load-unread, load-ready, load-refused}
@@ -178,7 +179,7 @@ walk-same-length : (t : ℕ) → walk-lts.Need-same-length (walk-calls t) (walk-
 walk-same-length t c = search needs
 
 walk-returns-2 : (t : ℕ) → walk-lts.Need-returns-2 (walk-calls t) (walk-at t) walk.Post
-walk-returns-2 t c = let a = c .before .before .before .before .before .before .before .before .before .before .before .before .before .before .before .before .before .args in record { told = walk-refused (recordsOf (a .commands .now) (a .text .now)) (a .on) (a .c) (a .n) (a .codes .now) (a .k) (a .row .now) (a .table .now) (a .m) (c .before .before .before .before .before .before .before .before .before .before .before .before .before .before .before .before .before .pre .1 .long) (c .before .before .before .before .before .before .before .before .if1 .left) _ _ (c .before .before .before .before .before .bring .ensures) _ _ (c .before .a .given .1) }
+walk-returns-2 t c = let a = c .before .before .before .before .before .before .before .before .before .before .before .before .before .before .before .before .before .args in record { told = walk-refused (recordsOf (a .commands .now) (a .text .now)) (a .on) (a .c) (a .n) (a .codes .now) (a .k) (a .row .now) (a .table .now) (a .m) (c .before .before .before .before .before .before .before .before .before .before .before .before .before .before .before .before .before .pre .1 .long) (c .before .before .before .before .before .before .before .before .if1 .left) _ _ _ (c .before .before .before .before .before .bring .ensures) refl _ _ (c .before .a .given .1) }
 
 walk-enum-known-d : (t : ℕ) → walk-lts.Need-enum-known-d (walk-calls t) (walk-at t) walk.Post
 walk-enum-known-d t c = search needs
@@ -187,16 +188,16 @@ walk-wide-requires : (t : ℕ) → walk-lts.Need-wide-requires (walk-calls t) (w
 walk-wide-requires t c κs = search needs
 
 walk-merge-row-requires : (t : ℕ) → walk-lts.Need-merge-row-requires (walk-calls t) (walk-at t) walk.Post
-walk-merge-row-requires t c κs = let a = c .before .before .before .before .before .before .before .before .before .before .before .before .before .before .before .before .before .before .before .before .args in (c .before .before .before .before .before .before .before .before .before .before .before .before .before .before .before .before .before .before .before .before .pre .1 .row .long, row-inside (recordsOf (a .commands .now) (a .text .now)) _ _ ((walk-went (recordsOf (a .commands .now) (a .text .now)) (a .on) (a .c) (a .n) (a .codes .now) (a .k) (a .row .now) (a .table .now) (a .m) (c .before .before .before .before .before .before .before .before .before .before .before .before .before .before .before .before .before .before .before .before .pre .1 .long) (c .before .before .before .before .before .before .before .before .before .before .before .if1 .left) _ _ (c .before .before .before .before .before .before .before .before .bring .ensures) _ (c .before .before .before .before .d .given .1) (c .before .before .wide .result) (c .before .before .wide .ensures)) .row))
+walk-merge-row-requires t c κs = let a = c .before .before .before .before .before .before .before .before .before .before .before .before .before .before .before .before .before .before .before .before .args in (c .before .before .before .before .before .before .before .before .before .before .before .before .before .before .before .before .before .before .before .before .pre .1 .row .long, row-inside (recordsOf (a .commands .now) (a .text .now)) _ _ ((walk-went (recordsOf (a .commands .now) (a .text .now)) (a .on) (a .c) (a .n) (a .codes .now) (a .k) (a .row .now) (a .table .now) (a .m) (c .before .before .before .before .before .before .before .before .before .before .before .before .before .before .before .before .before .before .before .before .pre .1 .long) (c .before .before .before .before .before .before .before .before .before .before .before .if1 .left) _ _ _ (c .before .before .before .before .before .before .before .before .bring .ensures) refl _ (c .before .before .before .before .d .given .1) (c .before .before .wide .result) (c .before .before .wide .ensures)) .row))
 
 walk-sub-walk : (t : ℕ) → walk-lts.Need-sub-walk (walk-calls t) (walk-at t) walk.Post
 walk-sub-walk t c = let a = c .before .before .before .before .before .before .before .before .before .before .before .before .before .before .before .before .before .before .before .before .before .before .before .before .args in omega (arith, c .before .before .before .before .before .before .before .before .before .before .before .before .before .before .before .if1 .left)
 
 walk-add-walk : (t : ℕ) → walk-lts.Need-add-walk (walk-calls t) (walk-at t) walk.Post
-walk-add-walk t c = let a = c .before .before .before .before .before .before .before .before .before .before .before .before .before .before .before .before .before .before .before .before .before .before .before .before .before .args in omega (arith, c .before .before .before .before .before .before .before .before .before .before .before .before .before .before .before .before .before .before .before .before .before .before .before .before .before .pre .1 .few, (walk-went (recordsOf (a .commands .now) (a .text .now)) (a .on) (a .c) (a .n) (a .codes .now) (a .k) (a .row .now) (a .table .now) (a .m) (c .before .before .before .before .before .before .before .before .before .before .before .before .before .before .before .before .before .before .before .before .before .before .before .before .before .pre .1 .long) (c .before .before .before .before .before .before .before .before .before .before .before .before .before .before .before .before .if1 .left) _ _ (c .before .before .before .before .before .before .before .before .before .before .before .before .before .bring .ensures) _ (c .before .before .before .before .before .before .before .before .before .d .given .1) (c .before .before .before .before .before .before .before .wide .result) (c .before .before .before .before .before .before .before .wide .ensures)) .few)
+walk-add-walk t c = let a = c .before .before .before .before .before .before .before .before .before .before .before .before .before .before .before .before .before .before .before .before .before .before .before .before .before .args in omega (arith, c .before .before .before .before .before .before .before .before .before .before .before .before .before .before .before .before .before .before .before .before .before .before .before .before .before .pre .1 .few, (walk-went (recordsOf (a .commands .now) (a .text .now)) (a .on) (a .c) (a .n) (a .codes .now) (a .k) (a .row .now) (a .table .now) (a .m) (c .before .before .before .before .before .before .before .before .before .before .before .before .before .before .before .before .before .before .before .before .before .before .before .before .before .pre .1 .long) (c .before .before .before .before .before .before .before .before .before .before .before .before .before .before .before .before .if1 .left) _ _ _ (c .before .before .before .before .before .before .before .before .before .before .before .before .before .bring .ensures) refl _ (c .before .before .before .before .before .before .before .before .before .d .given .1) (c .before .before .before .before .before .before .before .wide .result) (c .before .before .before .before .before .before .before .wide .ensures)) .few)
 
 walk-walk-requires : (t : ℕ) → walk-lts.Need-walk-requires (walk-calls t) (walk-at t) walk.Post
-walk-walk-requires t c κs = let a = c .before .before .before .before .before .before .before .before .before .before .before .before .before .before .before .before .before .before .before .before .before .before .before .before .before .args in (omega (arith, c .before .before .before .before .before .before .before .before .before .before .before .before .before .before .before .before .before .before .before .before .before .before .before .before .before .pre .0, c .before .before .before .before .before .before .before .before .before .before .before .before .before .before .before .before .if1 .left), walk-next (a .commands .now) (a .text .now) (a .begins .now) (a .starts .now) (a .lens .now) (a .n) _ _ _ _ _ _ _ (c .before .before .before .before .before .before .before .before .before .before .before .before .before .before .before .before .before .before .before .before .before .before .before .before .before .pre .1) (c .before .before .before .before .before .before .before .before .before .before .before .before .before .before .before .before .if1 .left) (c .before .before .before .before .before .before .before .wide .result) _ _ _ (walk-went (recordsOf (a .commands .now) (a .text .now)) (a .on) (a .c) (a .n) (a .codes .now) (a .k) (a .row .now) (a .table .now) (a .m) (c .before .before .before .before .before .before .before .before .before .before .before .before .before .before .before .before .before .before .before .before .before .before .before .before .before .pre .1 .long) (c .before .before .before .before .before .before .before .before .before .before .before .before .before .before .before .before .if1 .left) _ _ (c .before .before .before .before .before .before .before .before .before .before .before .before .before .bring .ensures) _ (c .before .before .before .before .before .before .before .before .before .d .given .1) (c .before .before .before .before .before .before .before .wide .result) (c .before .before .before .before .before .before .before .wide .ensures)) _ (merges (recordsOf (a .commands .now) (a .text .now)) _ _ _ (c .before .before .before .before .before .before .before .before .before .before .before .before .before .before .before .before .before .before .before .before .before .before .before .before .before .pre .1 .book .records .few) (c .before .before .before .before .before .before .before .before .before .before .before .before .before .before .before .before .before .before .before .before .before .before .before .before .before .pre .1 .row) ((walk-went (recordsOf (a .commands .now) (a .text .now)) (a .on) (a .c) (a .n) (a .codes .now) (a .k) (a .row .now) (a .table .now) (a .m) (c .before .before .before .before .before .before .before .before .before .before .before .before .before .before .before .before .before .before .before .before .before .before .before .before .before .pre .1 .long) (c .before .before .before .before .before .before .before .before .before .before .before .before .before .before .before .before .if1 .left) _ _ (c .before .before .before .before .before .before .before .before .before .before .before .before .before .bring .ensures) _ (c .before .before .before .before .before .before .before .before .before .d .given .1) (c .before .before .before .before .before .before .before .wide .result) (c .before .before .before .before .before .before .before .wide .ensures)) .row) (c .before .before .before .before .merge-row .ensures)))
+walk-walk-requires t c κs = let a = c .before .before .before .before .before .before .before .before .before .before .before .before .before .before .before .before .before .before .before .before .before .before .before .before .before .args in (omega (arith, c .before .before .before .before .before .before .before .before .before .before .before .before .before .before .before .before .before .before .before .before .before .before .before .before .before .pre .0, c .before .before .before .before .before .before .before .before .before .before .before .before .before .before .before .before .if1 .left), walk-next (a .commands .now) (a .text .now) (a .begins .now) (a .starts .now) (a .lens .now) (a .n) _ _ _ _ _ _ _ (c .before .before .before .before .before .before .before .before .before .before .before .before .before .before .before .before .before .before .before .before .before .before .before .before .before .pre .1) (c .before .before .before .before .before .before .before .before .before .before .before .before .before .before .before .before .if1 .left) (c .before .before .before .before .before .before .before .wide .result) _ _ _ (walk-went (recordsOf (a .commands .now) (a .text .now)) (a .on) (a .c) (a .n) (a .codes .now) (a .k) (a .row .now) (a .table .now) (a .m) (c .before .before .before .before .before .before .before .before .before .before .before .before .before .before .before .before .before .before .before .before .before .before .before .before .before .pre .1 .long) (c .before .before .before .before .before .before .before .before .before .before .before .before .before .before .before .before .if1 .left) _ _ _ (c .before .before .before .before .before .before .before .before .before .before .before .before .before .bring .ensures) refl _ (c .before .before .before .before .before .before .before .before .before .d .given .1) (c .before .before .before .before .before .before .before .wide .result) (c .before .before .before .before .before .before .before .wide .ensures)) _ (merges (recordsOf (a .commands .now) (a .text .now)) _ _ _ (c .before .before .before .before .before .before .before .before .before .before .before .before .before .before .before .before .before .before .before .before .before .before .before .before .before .pre .1 .book .records .few) (c .before .before .before .before .before .before .before .before .before .before .before .before .before .before .before .before .before .before .before .before .before .before .before .before .before .pre .1 .row) ((walk-went (recordsOf (a .commands .now) (a .text .now)) (a .on) (a .c) (a .n) (a .codes .now) (a .k) (a .row .now) (a .table .now) (a .m) (c .before .before .before .before .before .before .before .before .before .before .before .before .before .before .before .before .before .before .before .before .before .before .before .before .before .pre .1 .long) (c .before .before .before .before .before .before .before .before .before .before .before .before .before .before .before .before .if1 .left) _ _ _ (c .before .before .before .before .before .before .before .before .before .before .before .before .before .bring .ensures) refl _ (c .before .before .before .before .before .before .before .before .before .d .given .1) (c .before .before .before .before .before .before .before .wide .result) (c .before .before .before .before .before .before .before .wide .ensures)) .row) (c .before .before .before .before .merge-row .ensures)))
 
 walk-same-length-2 : (t : ℕ) → walk-lts.Need-same-length-2 (walk-calls t) (walk-at t) walk.Post
 walk-same-length-2 t c = search needs
@@ -205,7 +206,7 @@ walk-same-length-3 : (t : ℕ) → walk-lts.Need-same-length-3 (walk-calls t) (w
 walk-same-length-3 t c = search needs
 
 walk-returns-3 : (t : ℕ) → walk-lts.Need-returns-3 (walk-calls t) (walk-at t) walk.Post
-walk-returns-3 t c = let a = c .before .before .before .before .before .before .before .before .before .before .before .before .before .before .before .before .before .before .before .before .before .before .before .before .before .before .before .before .before .before .args in walk-on (recordsOf (a .commands .now) (a .text .now)) (a .on) (a .c) (a .n) (a .codes .now) (a .k) (a .row .now) (a .table .now) (a .m) (c .before .before .before .before .before .before .before .before .before .before .before .before .before .before .before .before .before .before .before .before .before .before .before .before .before .before .before .before .before .before .pre .1 .long) (c .before .before .before .before .before .before .before .before .before .before .before .before .before .before .before .before .before .before .before .before .before .if1 .left) _ _ (c .before .before .before .before .before .before .before .before .before .before .before .before .before .before .before .before .before .before .bring .ensures) _ (c .before .before .before .before .before .before .before .before .before .before .before .before .before .before .d .given .1) (c .before .before .before .before .before .before .before .before .before .before .before .before .wide .result) (c .before .before .before .before .before .before .before .before .before .before .before .before .wide .ensures) _ ((merges (recordsOf (a .commands .now) (a .text .now)) _ _ _ (c .before .before .before .before .before .before .before .before .before .before .before .before .before .before .before .before .before .before .before .before .before .before .before .before .before .before .before .before .before .before .pre .1 .book .records .few) (c .before .before .before .before .before .before .before .before .before .before .before .before .before .before .before .before .before .before .before .before .before .before .before .before .before .before .before .before .before .before .pre .1 .row) ((walk-went (recordsOf (a .commands .now) (a .text .now)) (a .on) (a .c) (a .n) (a .codes .now) (a .k) (a .row .now) (a .table .now) (a .m) (c .before .before .before .before .before .before .before .before .before .before .before .before .before .before .before .before .before .before .before .before .before .before .before .before .before .before .before .before .before .before .pre .1 .long) (c .before .before .before .before .before .before .before .before .before .before .before .before .before .before .before .before .before .before .before .before .before .if1 .left) _ _ (c .before .before .before .before .before .before .before .before .before .before .before .before .before .before .before .before .before .before .bring .ensures) _ (c .before .before .before .before .before .before .before .before .before .before .before .before .before .before .d .given .1) (c .before .before .before .before .before .before .before .before .before .before .before .before .wide .result) (c .before .before .before .before .before .before .before .before .before .before .before .before .wide .ensures)) .row) (c .before .before .before .before .before .before .before .before .before .merge-row .ensures)) .config) _ _ _ (c .before .before .before .before .walk .ensures)
+walk-returns-3 t c = let a = c .before .before .before .before .before .before .before .before .before .before .before .before .before .before .before .before .before .before .before .before .before .before .before .before .before .before .before .before .before .before .args in walk-on (recordsOf (a .commands .now) (a .text .now)) (a .on) (a .c) (a .n) (a .codes .now) (a .k) (a .row .now) (a .table .now) (a .m) (c .before .before .before .before .before .before .before .before .before .before .before .before .before .before .before .before .before .before .before .before .before .before .before .before .before .before .before .before .before .before .pre .1 .long) (c .before .before .before .before .before .before .before .before .before .before .before .before .before .before .before .before .before .before .before .before .before .if1 .left) _ _ _ (c .before .before .before .before .before .before .before .before .before .before .before .before .before .before .before .before .before .before .bring .ensures) refl _ (c .before .before .before .before .before .before .before .before .before .before .before .before .before .before .d .given .1) (c .before .before .before .before .before .before .before .before .before .before .before .before .wide .result) (c .before .before .before .before .before .before .before .before .before .before .before .before .wide .ensures) _ ((merges (recordsOf (a .commands .now) (a .text .now)) _ _ _ (c .before .before .before .before .before .before .before .before .before .before .before .before .before .before .before .before .before .before .before .before .before .before .before .before .before .before .before .before .before .before .pre .1 .book .records .few) (c .before .before .before .before .before .before .before .before .before .before .before .before .before .before .before .before .before .before .before .before .before .before .before .before .before .before .before .before .before .before .pre .1 .row) ((walk-went (recordsOf (a .commands .now) (a .text .now)) (a .on) (a .c) (a .n) (a .codes .now) (a .k) (a .row .now) (a .table .now) (a .m) (c .before .before .before .before .before .before .before .before .before .before .before .before .before .before .before .before .before .before .before .before .before .before .before .before .before .before .before .before .before .before .pre .1 .long) (c .before .before .before .before .before .before .before .before .before .before .before .before .before .before .before .before .before .before .before .before .before .if1 .left) _ _ _ (c .before .before .before .before .before .before .before .before .before .before .before .before .before .before .before .before .before .before .bring .ensures) refl _ (c .before .before .before .before .before .before .before .before .before .before .before .before .before .before .d .given .1) (c .before .before .before .before .before .before .before .before .before .before .before .before .wide .result) (c .before .before .before .before .before .before .before .before .before .before .before .before .wide .ensures)) .row) (c .before .before .before .before .before .before .before .before .before .merge-row .ensures)) .config) _ _ _ (c .before .before .before .before .walk .ensures)
 
 pub +bring+load+walk-spec : {M : Type 1} → statement M
 +bring+load+walk-spec = close μ-bring μ-load μ-walk (λ t. bring-lts.spec (bring-calls t)
