@@ -6,8 +6,8 @@ use Prim.Native.Nat.{ℕ, _+_, _-_, _*_, _<_, _≤_}
 use native.Mathlib.Omega.{arith}
 use lib.ListN.{length, getD, set, length-set}
 use Rattle.text.specs.Bytes.{Text}
-use Rattle.text.specs.Emit.{written}
-use Rattle.text.proofs.Emits.{written-length}
+use Rattle.emit.specs.Emit.{written}
+use Rattle.emit.proofs.Emits.{written-length}
 use Rattle.tsconfig.specs.Config.{merge}
 use Rattle.tsconfig.specs.Parsed.{Parsed}
 use Rattle.rows.specs.Rows.{absent, numberOf, configOf, Row, rowAt}

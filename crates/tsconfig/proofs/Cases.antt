@@ -24,7 +24,10 @@ use Rattle.book.specs.Record.{only, firstOf, strings, single, listed, targetsOf
 use Rattle.book.specs.Rules.{textOf, slot, tally, inRange, opened, fresh, follows, inOrder, tooMany, ownRule, goodString, pathOf, keysOf as keysOf-in-Rules, clash, givenBefore, faultOf, fault}
 use Rattle.glob.specs.Glob.{afterStars, afterStar, tokenAt, tokens, eat, after, afterDirs, matchTokens, globOf}
 use Rattle.keys.specs.Keys.{matchesAt, partAt, keyPart}
-use Rattle.path.specs.Path.{onFirst, split, pieceOf, starts, leadsDot, names, heads, components, sameList, leftOf, isSome, samePath, under, joined, ending, trimEnd, trimStart, allButLast, leadOf, trimmed, withoutLast, parentOf, leftPieces, stripPrefix, lastOf, lastPiece, ifName, fileName, afterDot, extensionOf, extension, joint, pushOf, stepBy, stepOf, walkOf, normalizeWith, normal, insideNodeModules}
+use Rattle.components.specs.Components.{onFirst, split, pieceOf, starts, leadsDot, names, heads, components, trimStart, leadOf, insideNodeModules}
+use Rattle.path.specs.Path.{sameList, leftOf, isSome, samePath, under, leftPieces, stripPrefix, normal}
+use Rattle.ends.specs.Ends.{joined, ending, trimEnd, allButLast, trimmed, withoutLast, parentOf, lastOf, lastPiece, ifName, fileName, afterDot, extensionOf, extension}
+use Rattle.join.specs.Join.{joint, pushOf, stepBy, stepOf, walkOf, normalizeWith}
 use Rattle.strings.specs.Strings.{stringRule, recordPath, leadRule, afterConfigDir, twoStars, patternText, patternRule, covers}
 use Rattle.text.specs.Text.{prefixOf, sameText, someOf, eachOf, findFrom, findLastFrom}
 use Rattle.tsconfig.specs.Build.{withoutSlashes, inConfigDir, substituted, adjusted, builtValue}
