@@ -233,7 +233,9 @@ fn answer(commands: &[u8], text: &[u8], line: &[u8], out: &mut [u8]) {
                 out,
             );
         }
-        Kind::Unknown => say_line(b"no question: B path, O path, C path, tab, specifier, or T path, tab, directory, tab, specifier"),
+        Kind::Unknown => say_line(
+            b"no question: B path, O path, C path, tab, specifier, or T path, tab, directory, tab, specifier",
+        ),
     }
 }
 

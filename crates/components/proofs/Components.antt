@@ -1,7 +1,7 @@
 -- Laws of where the pieces and the components of a text stand. Assumes nothing.
 use mathlib.Core.Path.{_≡_, refl, sym, ap, _∙_}
 use mathlib.Core.List.{List, [], _∷_}
-use mathlib.Core.Bool.{Bool, true, false, _&&_, cond}
+use mathlib.Core.Bool.{Bool, true, false, cond}
 use Prim.Native.Nat.{ℕ, _+_, _-_, _≤_, _<_}
 use native.Mathlib.Omega.{arith}
 use lib.ListN.{length, take, drop, getD, length-take, length-drop, length-append, drop-of-length-le}
@@ -222,6 +222,7 @@ names-rest s = go (lead-is s)
     go dotOnly = refl
     go (dotSlash t) = refl
     go (plain s a b p ps e k) = rw (a, b)
+
 -- A component that is `node_modules`
 
 pub inside-start : (s : Text) → someOf (λ p. sameText p nodeModules) (split s) ≡ insideNodeModules s

@@ -1,7 +1,6 @@
 -- What is written to lent output, and where, and what a buffer holds.
 use mathlib.Core.Path.{_≡_}
 use Prim.Native.Nat.{ℕ, _+_, _^_, _<_}
-use mathlib.Core.List.{List, [], _∷_}
 use lib.ListN.{length, take}
 use lib.Seq.{sets}
 use Rattle.text.specs.Bytes.{Text}

@@ -1,13 +1,13 @@
 -- Laws of a text's last piece and of its pieces up to the last component. Assumes nothing.
 use mathlib.Core.Path.{_≡_, refl, sym, ap, _∙_}
 use mathlib.Core.List.{List, [], _∷_, _++_}
-use mathlib.Core.Bool.{Bool, true, false, _&&_, cond}
-use Prim.Native.Nat.{ℕ, zero, suc, _+_, _-_, _≤_, _<_}
+use mathlib.Core.Bool.{Bool, true, false, cond}
+use Prim.Native.Nat.{ℕ, suc, _+_, _-_, _≤_, _<_}
 use native.Mathlib.Omega.{arith}
 use native.Mathlib.Numerals.{add-one}
 use native.Mathlib.Nat.{add-zero, add-suc, suc-add}
 use lib.ListN.{length, take, drop, getD, length-append, length-take, length-drop, drop-of-length-le}
-use lib.Seq.{length-take-le, take-all, take-nil, take-take, drop-drop, split-at, take-append-seam, take-append-add}
+use lib.Seq.{length-take-le, take-all, split-at, take-append-seam, take-append-add}
 use lib.Dec.{eqb}
 use borrow.Author.Tests.{eqb-true, eqb-false}
 use Rattle.text.specs.Bytes.{Text, slash}
@@ -17,7 +17,7 @@ use Rattle.text.specs.declared.Found.the-variants.{At, Nothing}
 use Rattle.components.specs.Components.{onFirst, split, pieceOf, isSkip}
 use Rattle.ends.specs.Ends.{joined, ending, trimEnd, allButLast, lastOf, lastPiece}
 use Rattle.text.proofs.Picks.{by-test, never, both-left, both-right}
-use Rattle.text.proofs.Parts.{drop-take, between-later, between-less}
+use Rattle.text.proofs.Parts.{between-less}
 use Rattle.components.proofs.Pieces.{by-split}
 
 -- The last place of a byte: after it the byte does not stand

@@ -15,7 +15,7 @@ use Rattle.text.specs.declared.Part.{Part}
 use Rattle.text.specs.declared.Part.the-variants.{Span, Missing}
 use Rattle.components.specs.Components.{split, pieceOf, isName, isSkip, names}
 use Rattle.ends.specs.Ends.{joined, ending, trimEnd, lastOf, lastPiece, ifName, fileName, afterDot, extensionOf, extension}
-use Rattle.text.proofs.Picks.{by-test, never}
+use Rattle.text.proofs.Picks.{by-test}
 use Rattle.text.proofs.Parts.{between-later, drop-take}
 use Rattle.ends.proofs.Ends.{last-within, lacks, split-bare, split-joined, trim-each, trimmed-front, start-drop}
 

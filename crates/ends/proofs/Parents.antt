@@ -5,7 +5,7 @@ use mathlib.Core.Bool.{Bool, true, false}
 use Prim.Native.Nat.{ℕ, suc, _+_, _-_, _≤_, _<_}
 use native.Mathlib.Omega.{arith}
 use lib.ListN.{length, take, drop, length-append, length-take, length-drop}
-use lib.Seq.{take-add, take-take, take-length, length-take-le}
+use lib.Seq.{take-add, take-take, take-length}
 use Rattle.text.specs.Bytes.{Text, slash}
 use Rattle.text.specs.Text.{findLast, between}
 use Rattle.text.specs.declared.Found.{Found}

@@ -1,16 +1,15 @@
 -- Laws of joining, and of what a buffer holds after it. Assumes nothing.
-use mathlib.Core.Path.{_≡_, refl, sym, ap, subst, _∙_}
+use mathlib.Core.Path.{_≡_, sym, subst}
 use mathlib.Core.List.{[], _∷_, _++_}
 use mathlib.Core.Bool.{Bool, true, false, not}
 use Prim.Native.Nat.{ℕ, _+_, _-_, _*_, _^_, _≤_, _<_}
 use native.Mathlib.Omega.{arith}
-use lib.ListN.{length, take, drop, getD, length-append}
-use lib.Seq.{take-at, length-take-le}
+use lib.ListN.{length, take, getD, length-append}
 use lib.Dec.{eqb}
 use borrow.Author.Tests.{eq-eqb, ne-eqb}
 use Rattle.text.specs.Bytes.{Text, slash}
 use Rattle.emit.specs.Emit.{Room, Emits, Holds}
-use Rattle.emit.proofs.Emits.{written-in, emits-both, room-first, room-rest}
+use Rattle.emit.proofs.Emits.{emits-both, room-first, room-rest, emits-holds}
 use Rattle.components.specs.Components.{starts}
 use Rattle.join.specs.Join.{joint, pushOf, joinOf, slashIf}
 use Rattle.text.proofs.Picks.{by-test}

@@ -209,7 +209,7 @@ module _ (commands text : Text) where
       let k : d .config ≡ c .config = same-some (sym (d .means) ∙ c .means) in
       let flat : ℕ → Settings = λ i. (flatSite rs i) .config in
       let e : tries (flat (d .config)) directory s ≡ candidates (flat (c .config)) s ++ flatAfter rs (c .config) s =
-          ap (λ (i : ℕ). tries (flat i) directory s) k ∙ candidates-lead (flat (c .config)) directory s outside plain in
+      ap (λ (i : ℕ). tries (flat i) directory s) k ∙ candidates-lead (flat (c .config)) directory s outside plain in
       record {
         config = c .config;
         means = c .means;

@@ -222,7 +222,17 @@ fn put_paths(
     ensures { λ r. ⌜ Lists (pathsBy tried (now (directory .entry)) (now (specifier .entry)) (configAt (now (commands .entry)) (now (text .entry)) (now (row .entry)))) (now (out .entry)) at (now (out .exit)) r ⌝ }
 {
     if tried {
-        return put_tries(commands, text, begins, row, base, directory, specifier, out, at);
+        return put_tries(
+            commands,
+            text,
+            begins,
+            row,
+            base,
+            directory,
+            specifier,
+            out,
+            at,
+        );
     }
     put_candidates(commands, text, begins, row, base, specifier, out, at)
 }

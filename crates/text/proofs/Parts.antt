@@ -1,14 +1,13 @@
 -- Laws of the parts of a text. Assumes nothing.
 use mathlib.Core.Path.{_≡_, refl, ap, sym, _∙_}
 use mathlib.Core.List.{List, [], _∷_}
-use Prim.Native.Nat.{ℕ, zero, suc, _+_, _-_, _≤_, _<_}
+use Prim.Native.Nat.{ℕ, zero, suc, _+_, _-_, _≤_}
 use native.Mathlib.Omega.{arith}
-use lib.ListN.{length, take, drop, length-take, length-drop, drop-of-length-le}
+use lib.ListN.{length, take, drop, length-drop, drop-of-length-le}
 use lib.Seq.{take-all, take-nil, take-take, drop-drop}
 use Rattle.text.specs.Bytes.{Text}
 use Rattle.text.proofs.Picks.{by-test}
 use lib.Dec.{eqb}
-use mathlib.Core.Bool.{Bool, true, false, cond}
 use Rattle.text.specs.Text.{findFrom, find, between, beforeByte, afterByte}
 use Rattle.text.specs.declared.Found.{Found}
 use Rattle.text.specs.declared.Found.the-variants.{At, Nothing}
