@@ -7,8 +7,9 @@ root=$(cd "$here/../.." && pwd)
 work=$(mktemp -d)
 trap 'rm -rf "$work"' EXIT
 mkdir -p "$work/crates/strings_bench/src"
-for crate in text path strings; do cp -r "$root/crates/$crate" "$work/crates/"; done
-printf 'text:\npath: text\nstrings: text path\nstrings_bench: strings\n' > "$work/crates.txt"
+for crate in text names emit components ends path strings; do cp -r "$root/crates/$crate" "$work/crates/"; done
+grep -E '^(text|names|emit|components|ends|path|strings):' "$root/crates.txt" > "$work/crates.txt"
+echo 'strings_bench: strings' >> "$work/crates.txt"
 for rule in is_string is_pattern is_record_path obeys_lead is_asked_path; do
     printf '#[no_mangle]\npub extern "C" fn bench_%s(s: &[u8]) -> bool { strings::%s(s) }\n\n' $rule $rule
 done > "$work/crates/strings_bench/src/lib.rt"

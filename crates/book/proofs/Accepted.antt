@@ -9,7 +9,7 @@ use lib.ListN.{length, getD, List·getD-eq-default}
 use lib.Dec.{eqb, leb, ltb}
 use borrow.Author.Tests.{ne-eqb, eqb-true, leb-true, leb-false, le-ltb}
 use Rattle.text.specs.Bytes.{Text}
-use Rattle.path.proofs.Pieces.{by-test}
+use Rattle.text.proofs.Picks.{by-test}
 use Rattle.book.specs.declared.Cmd.{Cmd}
 use Rattle.book.specs.Answer.{refused, given, unless}
 use Rattle.book.specs.Command.{Decoded, ended, broken, command, decode, begin, key, target, flag, textOption, end}

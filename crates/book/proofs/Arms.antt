@@ -8,7 +8,7 @@ use lib.ListN.{getD}
 use lib.Dec.{T, eqb, leb, ltb}
 use types.Run.{OneOf}
 use borrow.Author.Tests.{eqb-true, leb-true, ltb-true, ltb-false, le-ltb}
-use Rattle.path.proofs.Pieces.{by-test}
+use Rattle.text.proofs.Picks.{by-test}
 use Rattle.book.specs.Command.{widths, widthOf}
 use Rattle.book.specs.Rules.{openers, limits}
 use Rattle.book.proofs.Table.{every, spare, past, at-each, at-keys, T-true}

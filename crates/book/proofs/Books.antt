@@ -9,7 +9,7 @@ use lib.Seq.{drop-drop, getD-at, getD-set-same, getD-set-other, take-suc-set}
 use lib.Dec.{eqb}
 use borrow.Author.Tests.{lt-ltb, le-ltb, eqb-true, eqb-false}
 use Rattle.text.specs.Bytes.{Text}
-use Rattle.path.proofs.Pieces.{by-test}
+use Rattle.text.proofs.Picks.{by-test}
 use Rattle.book.specs.declared.Cmd.{Cmd}
 use Rattle.book.specs.declared.Checked.{Checked}
 use Rattle.book.specs.declared.Checked.the-variants.{Refused, Closed}

@@ -20,7 +20,8 @@ use Rattle.book.specs.Book.{next, finish, judge}
 use Rattle.book.specs.Command.{widthOf, operands, decodeAt}
 use Rattle.book.specs.Record.{only, firstOf, targetsOf, keysOf}
 use Rattle.book.specs.Rules.{textOf, slot, tally, inRange, opened, fresh, follows, inOrder, tooMany, ownRule, goodString, pathOf, keysOf as keysOf-in-Rules, clash, givenBefore, faultOf, fault}
-use Rattle.path.specs.Path.{onFirst, split, pieceOf, starts, normal}
+use Rattle.components.specs.Components.{onFirst, split, pieceOf, starts}
+use Rattle.path.specs.Path.{normal}
 use Rattle.strings.specs.Strings.{afterConfigDir, twoStars, patternText, covers}
 use Rattle.text.specs.Text.{prefixOf, sameText, someOf, eachOf}
 

@@ -16,7 +16,7 @@ use Rattle.book.specs.Command.{begin, key, target, flag, textOption}
 use Rattle.book.specs.Rules.{slot, inRange, tally, openers, limits, opened, fresh, follows, inOrder, tooMany, textOf, ownRule, goodString}
 use Rattle.book.specs.State.{has, pushed, Agrees, Slotted}
 use Rattle.book.proofs.Table.{at-each, T-true}
-use Rattle.path.proofs.Pieces.{by-test}
+use Rattle.text.proofs.Picks.{by-test}
 
 pub limits-small : (k : ℕ) → k < 21 → getD limits k 0 ≤ 64
 limits-small k h = leb→le (getD limits k 0) 64 (at-each (λ i x. leb x 64) limits tt k h)

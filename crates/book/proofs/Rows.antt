@@ -13,7 +13,7 @@ use Rattle.text.specs.Text.{prefixOf, sameText, someOf}
 use Rattle.strings.specs.Strings.{covers}
 use Rattle.strings.specs.Scan.{digestFrom}
 use Rattle.text.proofs.Scans.{prefix-short, same-length}
-use Rattle.path.proofs.Pieces.{by-test}
+use Rattle.text.proofs.Picks.{by-test}
 use Rattle.book.specs.Rules.{clash}
 use Rattle.book.specs.State.{texts, meets, Table, Marked}
 

@@ -9,7 +9,7 @@ use lib.Seq.{drop-cons}
 use lib.Dec.{leb, eqb, ltb}
 use native.Mathlib.Nat.{add-zero}
 use borrow.Author.Tests.{le-leb, lt-leb, eq-eqb, ne-eqb, leb-true, leb-false, ltb-true}
-use Rattle.path.proofs.Pieces.{by-test}
+use Rattle.text.proofs.Picks.{by-test}
 use Rattle.book.specs.Command.{begin, word, widths, widthOf, operands, Decoded, ended, broken, command, decode, decodeAt}
 use Rattle.book.specs.Steps.{stepAt}
 use Rattle.text.specs.Bytes.{Text}

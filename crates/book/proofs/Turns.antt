@@ -27,7 +27,7 @@ use Rattle.strings.specs.Scan.{digestFrom}
 use Rattle.book.specs.Checks.{Held, ClosedAs}
 use Rattle.book.specs.Steps.{stepAt}
 use Rattle.book.proofs.Steps.{decoded, decode-step, Moved, step-moves, step-ends, step-begins}
-use Rattle.path.proofs.Pieces.{by-test}
+use Rattle.text.proofs.Picks.{by-test}
 use Rattle.book.proofs.Keeps.{in-slot, agree-push, agree-none, limits-small, slot-key}
 use Rattle.book.proofs.Table.{at-each}
 use Rattle.book.proofs.Faults.{good-within}

@@ -3,9 +3,12 @@ use Prim.Native.Nat.{ℕ, suc}
 use mathlib.Core.List.{List, [], _∷_, _++_}
 use mathlib.Core.Bool.{Bool, cond, _&&_}
 use mathlib.Core.Option.{Option, some, none, Option·map}
-use Rattle.text.specs.Bytes.{Text, slash, tsconfigJson, json}
+use Rattle.text.specs.Bytes.{Text, slash}
+use Rattle.names.specs.Names.{tsconfigJson, json}
 use Rattle.text.specs.Text.{prefixOf, sameText, someOf}
-use Rattle.path.specs.Path.{starts, isSome, pushOf}
+use Rattle.components.specs.Components.{starts}
+use Rattle.path.specs.Path.{isSome}
+use Rattle.join.specs.Join.{pushOf}
 
 -- the number of the record with the path: "Record numbers run from 0."
 unfoldable pub find : Text → List Text → Option ℕ

@@ -7,7 +7,9 @@ use mathlib.Core.Option.{Option, some, none}
 use lib.Dec.{ltb, eqb}
 use lib.ListN.{take, drop}
 use Rattle.text.specs.Bytes.{Text, bytes}
-use Rattle.path.specs.Path.{normalizeWith, under, extension}
+use Rattle.join.specs.Join.{normalizeWith}
+use Rattle.path.specs.Path.{under}
+use Rattle.ends.specs.Ends.{extension}
 use Rattle.keys.specs.Keys.{keyPart, isMatch}
 use Rattle.book.specs.Answer.{Answer, refused, given}
 use Rattle.book.specs.Record.{Key}

@@ -5,10 +5,11 @@ use mathlib.Core.Bool.{Bool, true, false}
 use Prim.Native.Nat.{ℕ, _+_, _-_, _≤_, _<_}
 use native.Mathlib.Omega.{arith}
 use lib.ListN.{length}
-use Rattle.text.specs.Bytes.{Text, configDir}
+use Rattle.text.specs.Bytes.{Text}
+use Rattle.names.specs.Names.{configDir}
 use Rattle.text.specs.Text.{prefixOf, someOf}
-use Rattle.path.specs.Places.{Holds}
-use Rattle.path.proofs.Pieces.{by-test}
+use Rattle.emit.specs.Emit.{Holds}
+use Rattle.text.proofs.Picks.{by-test}
 use Rattle.book.specs.declared.Cmd.{Cmd}
 use Rattle.book.specs.Rules.{textOf}
 use Rattle.book.specs.Record.{is, strings}

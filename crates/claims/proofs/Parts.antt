@@ -11,7 +11,8 @@ use Rattle.text.specs.Bytes.{Text}
 use Rattle.text.specs.Text.{someOf}
 use Rattle.text.specs.declared.Found.{Found}
 use Rattle.text.specs.declared.Found.the-variants.{At, Nothing}
-use Rattle.path.specs.Path.{samePath, under, extension, isSome}
+use Rattle.path.specs.Path.{samePath, under, isSome}
+use Rattle.ends.specs.Ends.{extension}
 use Rattle.book.specs.declared.Cmd.{Cmd}
 use Rattle.book.specs.Record.{strings}
 use Rattle.book.specs.Index.{recordAt}

@@ -11,15 +11,14 @@ use lib.Seq.{drop-cons, length-take-le}
 use lib.Dec.{eqb}
 use borrow.Author.Tests.{eq-eqb, ne-eqb}
 use Rattle.text.specs.Bytes.{Text, bytes, slash, dot, star, question}
-use Rattle.text.specs.Text.{sameText, someOf, between, partOf, isTsExtension, isJsExtension}
-use Rattle.text.specs.Emit.{Emits}
+use Rattle.text.specs.Text.{sameText, someOf, between, partOf}
+use Rattle.names.specs.Names.{isTsExtension, isJsExtension}
+use Rattle.emit.specs.Emit.{Emits, Holds}
 use Rattle.text.specs.declared.Part.{Part}
 use Rattle.text.specs.declared.Part.the-variants.{Span, Missing}
-use Rattle.path.specs.Path.{lastPiece, extension}
-use Rattle.path.specs.Places.{Holds}
-use Rattle.path.proofs.Pieces.{by-test}
-use Rattle.path.proofs.Ends.{never}
-use Rattle.path.proofs.Buffer.{kept, emits-holds}
+use Rattle.ends.specs.Ends.{lastPiece, extension}
+use Rattle.text.proofs.Picks.{by-test, never}
+use Rattle.emit.proofs.Emits.{kept, emits-holds}
 use Rattle.glob.specs.Glob.{globOf}
 use Rattle.tsconfig.specs.Claims.{allowed, outside, ends, isSpecial, implied, matched}
 

@@ -10,9 +10,9 @@ use Rattle.text.specs.Bytes.{Text}
 use Rattle.text.specs.Text.{someOf}
 use Rattle.text.specs.declared.Found.{Found}
 use Rattle.text.specs.declared.Found.the-variants.{At, Nothing}
-use Rattle.path.specs.Path.{parentOf, isSome}
-use Rattle.path.proofs.Pieces.{by-test}
-use Rattle.path.proofs.Ends.{never}
+use Rattle.ends.specs.Ends.{parentOf}
+use Rattle.path.specs.Path.{isSome}
+use Rattle.text.proofs.Picks.{by-test, never}
 use Rattle.book.specs.declared.Cmd.{Cmd}
 use Rattle.book.specs.Record.{is, strings, listed, flagOf}
 use Rattle.book.specs.Index.{recordAt}

@@ -4,7 +4,7 @@ use mathlib.Core.Bool.{Bool}
 use mathlib.Core.List.{List}
 use Prim.Native.Nat.{ℕ}
 use Rattle.text.specs.Bytes.{Text}
-use Rattle.path.specs.Path.{parentOf}
+use Rattle.ends.specs.Ends.{parentOf}
 use Rattle.tsconfig.specs.Claims.{Site, allowJs}
 use Rattle.rows.specs.Rows.{Row, siteOf}
 use Rattle.rows.specs.Records.{Records, recordsOf}

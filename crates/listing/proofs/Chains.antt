@@ -4,8 +4,8 @@ use mathlib.Core.List.{[], _∷_, _++_, append-assoc}
 use Prim.Native.Nat.{ℕ, _+_, _<_, _≤_}
 use borrow.Author.Tests.{lt-ltb, le-ltb}
 use Rattle.text.specs.Bytes.{Text}
-use Rattle.text.specs.Emit.{Room, Emits}
-use Rattle.text.proofs.Emits.{emits-both, room-first, room-rest}
+use Rattle.emit.specs.Emit.{Room, Emits}
+use Rattle.emit.proofs.Emits.{emits-both, room-first, room-rest}
 use Rattle.tsconfig.specs.Listing.{row, decimal}
 use Rattle.listing.specs.Parts.{valued}
 

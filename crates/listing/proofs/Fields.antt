@@ -8,11 +8,10 @@ use lib.ListN.{length, take, getD}
 use lib.Dec.{eqb}
 use borrow.Author.Tests.{eq-eqb, ne-eqb}
 use Rattle.text.specs.Bytes.{Text, bytes}
-use Rattle.text.specs.Emit.{Room, Emits}
-use Rattle.text.proofs.Emits.{emits-none, emits-both, room-first, room-rest}
+use Rattle.emit.specs.Emit.{Room, Emits, Holds}
+use Rattle.emit.proofs.Emits.{emits-none, emits-both, room-first, room-rest}
 use Rattle.text.specs.declared.Found.{Found}
 use Rattle.text.specs.declared.Found.the-variants as found
-use Rattle.path.specs.Places.{Holds}
 use Rattle.book.specs.declared.Cmd.{Cmd}
 use Rattle.book.specs.Command as command
 use Rattle.book.specs.Rules.{textOf}

@@ -3,8 +3,8 @@ use mathlib.Core.Path.{_≡_}
 use mathlib.Core.List.{List, _++_}
 use Prim.Native.Nat.{ℕ}
 use Rattle.text.specs.Bytes.{Text, bytes}
-use Rattle.text.specs.Emit.{Room, Emits}
-use Rattle.text.proofs.Emits.{emits-both, room-first, room-rest}
+use Rattle.emit.specs.Emit.{Room, Emits}
+use Rattle.emit.proofs.Emits.{emits-both, room-first, room-rest}
 use Rattle.text.specs.declared.Found.{Found}
 use Rattle.book.specs.Command as command
 use Rattle.book.specs.Record.{strings}

@@ -5,7 +5,7 @@ use Prim.Native.Nat.{ℕ, _-_, _<_, _≤_}
 use native.Mathlib.Omega.{arith}
 use lib.ListN.{length, length-take}
 use Rattle.text.specs.Bytes.{Text, bytes}
-use Rattle.path.specs.Places.{Holds}
+use Rattle.emit.specs.Emit.{Holds}
 use Rattle.book.specs.declared.Cmd.{Cmd}
 use Rattle.book.specs.Command.{key}
 use Rattle.book.specs.Rules.{textOf}

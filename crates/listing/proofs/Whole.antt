@@ -11,7 +11,7 @@ use Rattle.text.specs.Text.{someOf}
 use Rattle.text.specs.declared.Found.{Found}
 use Rattle.text.specs.declared.Found.the-variants.{At, Nothing}
 use Rattle.path.specs.Path.{isSome}
-use Rattle.path.proofs.Pieces.{by-test}
+use Rattle.text.proofs.Picks.{by-test}
 use Rattle.book.specs.declared.Cmd.{Cmd}
 use Rattle.book.specs.Command as command
 use Rattle.book.specs.Record as fields
@@ -32,7 +32,7 @@ use Rattle.rows.proofs.Lists.{getD-any}
 use Rattle.rows.proofs.Fields.{slot-of-flag, slot-of-text, plain, found-place, found-rec, record-references, record-says, supplier-there, row-begin, place-sound, own-sound, site-none, site-at, site-plain}
 use Rattle.listing.specs.Parts.{builtPlace, listAt, rootsAt, urlAt, placeAt, mappingAt, flagAt, textAt, GoodAt, Lent, flagsFrom, textsFrom, optionsPart, placesPart, mappingPart, basePart, wholePart}
 use Rattle.listing.proofs.Sizes.{whole-size, whole-room}
-use Rattle.text.specs.Emit.{Room, Emits}
+use Rattle.emit.specs.Emit.{Room, Emits}
 
 -- Options
 

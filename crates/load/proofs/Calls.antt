@@ -7,8 +7,8 @@ use native.Mathlib.Omega.{arith}
 use lib.ListN.{length, getD, set, take, drop, length-set, length-take, length-drop}
 use lib.Seq.{length-take-le}
 use Rattle.text.specs.Bytes.{Text}
-use Rattle.text.specs.Emit.{written}
-use Rattle.text.proofs.Emits.{written-length}
+use Rattle.emit.specs.Emit.{written}
+use Rattle.emit.proofs.Emits.{written-length}
 use Rattle.tsconfig.specs.Config.{merge}
 use Rattle.tsconfig.specs.Parsed.{Parsed}
 use Rattle.rows.specs.Rows.{absent, numberOf, configOf, Row, rowAt}

@@ -7,8 +7,9 @@ use native.Mathlib.Omega.{arith}
 use lib.ListN.{length, getD, take, drop, List·getD-map}
 use borrow.Author.Tests.{ne-eqb}
 use Rattle.text.specs.Bytes.{Text}
-use Rattle.path.specs.Path.{parentOf, normalizeWith}
-use Rattle.path.proofs.Parents.{parent-le}
+use Rattle.ends.specs.Ends.{parentOf}
+use Rattle.join.specs.Join.{normalizeWith}
+use Rattle.ends.proofs.Parents.{parent-le}
 use Rattle.book.specs.Command.{extends, reference}
 use Rattle.book.specs.Record.{strings, recordPathOf}
 use Rattle.book.specs.Index as index

@@ -15,9 +15,9 @@ use Rattle.text.specs.Bytes.{Text, slash, dot}
 use Rattle.text.specs.declared.Found.{Found}
 use Rattle.text.specs.declared.Found.the-variants.{At, Nothing}
 use Rattle.strings.specs.Strings.{stringRule}
-use Rattle.path.specs.Path.{normalizeWith}
-use Rattle.path.specs.Places.{Holds}
-use Rattle.path.proofs.Pieces.{by-test}
+use Rattle.join.specs.Join.{normalizeWith}
+use Rattle.emit.specs.Emit.{Holds}
+use Rattle.text.proofs.Picks.{by-test}
 use Rattle.book.specs.declared.Cmd.{Cmd}
 use Rattle.book.specs.Rules.{textOf, goodString}
 use Rattle.book.specs.Command.{begin, extends}

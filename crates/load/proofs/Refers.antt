@@ -10,12 +10,12 @@ use lib.Dec.{eqb}
 use lib.ListN.{length, getD, take, replicate, drop-of-length-le, length-replicate}
 use borrow.Author.Tests.{eq-eqb, ne-eqb, eqb-true, eqb-false}
 use Rattle.text.specs.Bytes.{Text}
-use Rattle.text.specs.Emit.{Emits}
-use Rattle.text.proofs.Emits.{written-whole}
+use Rattle.emit.specs.Emit.{Emits}
+use Rattle.emit.proofs.Emits.{written-whole}
 use Rattle.rows.proofs.Lists.{row-length}
 use Rattle.text.specs.declared.Found.{Found}
 use Rattle.text.specs.declared.Found.the-variants.{At, Nothing}
-use Rattle.path.proofs.Pieces.{by-test}
+use Rattle.text.proofs.Picks.{by-test}
 use Rattle.book.specs.declared.Cmd.{Cmd}
 use Rattle.book.specs.Answer.{Answer, refused, given, _>>=_}
 use Rattle.book.specs.Rules.{textOf}

@@ -7,7 +7,7 @@ use lib.Dec.{eqb}
 use lib.ListN.{length, getD, drop, length-append, drop-of-length-le, List·getD-append}
 use lib.Seq.{drop-cons, getD-at}
 use borrow.Author.Tests.{eqb-true, eqb-false}
-use Rattle.path.proofs.Pieces.{by-test}
+use Rattle.text.proofs.Picks.{by-test}
 use Rattle.tsconfig.specs.Parsed.{Parsed}
 use Rattle.tsconfig.specs.Claims.{Site}
 use Rattle.rows.specs.Rows.{siteOf, rowAt}

@@ -7,7 +7,7 @@ use mathlib.Core.Option.{Option, some, none}
 use lib.Dec.{eqb, ltb}
 use lib.ListN.{length, take}
 use Rattle.text.specs.Bytes.{Text, slash, dot}
-use Rattle.path.specs.Path.{normalizeWith}
+use Rattle.join.specs.Join.{normalizeWith}
 use Rattle.book.specs.Find.{locate}
 use Rattle.book.specs.Command.{extends}
 use Rattle.book.specs.Record.{strings}

@@ -7,11 +7,10 @@ use native.Mathlib.Omega.{arith}
 use lib.ListN.{length, take, drop, length-append, length-take, length-drop, length-map}
 use Rattle.text.specs.Bytes.{Text}
 use Rattle.text.specs.Text.{starOf}
-use Rattle.text.specs.Emit.{Room, Emits}
+use Rattle.emit.specs.Emit.{Room, Emits, Holds}
 use Rattle.text.specs.declared.Found.{Found}
 use Rattle.text.specs.declared.Found.the-variants as found
-use Rattle.text.proofs.Emits.{Owes, owes-all, owes-step, owes-room, owes-end, emits-length}
-use Rattle.path.specs.Places.{Holds}
+use Rattle.emit.proofs.Emits.{Owes, owes-all, owes-step, owes-room, owes-end, emits-length}
 use Rattle.book.specs.declared.Cmd.{Cmd}
 use Rattle.book.specs.Rules.{textOf}
 use Rattle.book.specs.Record.{targetsOf}

@@ -7,10 +7,10 @@ use native.Mathlib.Numerals.{add-one}
 use lib.ListN.{length, take, drop, length-append}
 use Rattle.text.specs.Bytes.{Text}
 use Rattle.text.specs.Text.{starOf}
-use Rattle.text.specs.Emit.{Room, Emits}
+use Rattle.emit.specs.Emit.{Room, Emits}
 use Rattle.text.specs.declared.Found.{Found}
 use Rattle.text.specs.declared.Found.the-variants.{At, Nothing}
-use Rattle.text.proofs.Emits.{emits-both, room-first, room-rest}
+use Rattle.emit.proofs.Emits.{emits-both, room-first, room-rest}
 use Rattle.text.proofs.Scans.{find-within}
 use Rattle.tsconfig.specs.Mapping.{filled, filledAt}
 use Rattle.tsconfig.specs.Laid.{sizeOf, laid}

@@ -10,8 +10,8 @@ use Rattle.text.specs.Bytes.{Text}
 use Rattle.text.specs.Text.{sameText, starOf}
 use Rattle.text.specs.declared.Found.{Found}
 use Rattle.text.specs.declared.Found.the-variants as found
-use Rattle.text.proofs.Emits.{emits-none}
-use Rattle.path.proofs.Pieces.{by-test}
+use Rattle.emit.proofs.Emits.{emits-none}
+use Rattle.text.proofs.Picks.{by-test}
 use Rattle.keys.specs.Keys.{suffix, matchesAt, partAt, keyPart, isMatch}
 use Rattle.book.specs.declared.Cmd.{Cmd}
 use Rattle.book.specs.Command.{key, target}

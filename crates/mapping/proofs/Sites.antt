@@ -8,12 +8,14 @@ use native.Mathlib.Omega.{arith}
 use lib.ListN.{length, getD, take}
 use Rattle.text.specs.Bytes.{Text, dot}
 use Rattle.text.specs.Text.{someOf}
-use Rattle.text.specs.Emit.{written, Room, Emits}
+use Rattle.emit.specs.Emit.{written, Room, Emits, Holds}
 use Rattle.text.specs.declared.Found.{Found}
 use Rattle.text.specs.declared.Found.the-variants.{At, Nothing}
-use Rattle.path.specs.Path.{starts, isSome, parentOf, normalizeWith}
-use Rattle.path.specs.Places.{Holds}
-use Rattle.path.proofs.Pieces.{by-test}
+use Rattle.components.specs.Components.{starts}
+use Rattle.path.specs.Path.{isSome}
+use Rattle.ends.specs.Ends.{parentOf}
+use Rattle.join.specs.Join.{normalizeWith}
+use Rattle.text.proofs.Picks.{by-test}
 use Rattle.book.specs.declared.Cmd.{Cmd}
 use Rattle.book.specs.Command as command
 use Rattle.book.specs.Record.{is, keysOf, mapping}

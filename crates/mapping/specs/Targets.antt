@@ -5,7 +5,7 @@ use mathlib.Core.List.{List, map}
 use mathlib.Core.Bool.{Bool, cond}
 use lib.ListN.{length}
 use Rattle.text.specs.Bytes.{Text}
-use Rattle.text.specs.Emit.{Emits}
+use Rattle.emit.specs.Emit.{Emits}
 use Rattle.book.specs.Record.{targetsOf}
 use Rattle.book.specs.Index.{recordAt}
 use Rattle.book.specs.Sound.{All}

@@ -8,13 +8,17 @@ use native.Mathlib.Numerals.{add-one}
 use native.Mathlib.Omega.{arith}
 use lib.ListN.{length, take, drop, length-take}
 use lib.Seq.{take-take, take-length}
-use Rattle.path.specs.Places.{Holds}
+use Rattle.emit.specs.Emit.{Holds}
 use lib.Dec.{leb}
 use borrow.Author.Tests.{leb-true, leb-false}
-use Rattle.text.specs.Bytes.{Text, tsconfigJson}
+use Rattle.text.specs.Bytes.{Text}
+use Rattle.names.specs.Names.{tsconfigJson}
 use Rattle.text.specs.Text.{someOf, between}
-use Rattle.path.specs.Path.{parentOf, pushOf, components, insideNodeModules, isSome, extension}
-use Rattle.path.proofs.Pieces.{by-test}
+use Rattle.ends.specs.Ends.{parentOf, extension}
+use Rattle.join.specs.Join.{pushOf}
+use Rattle.components.specs.Components.{components, insideNodeModules}
+use Rattle.path.specs.Path.{isSome}
+use Rattle.text.proofs.Picks.{by-test}
 use Rattle.book.specs.Answer.{Answer, refused, given, _>>=_}
 use Rattle.book.specs.Find.{find}
 use Rattle.tsconfig.specs.Config.{Field, files, include, exclude}

@@ -1,10 +1,10 @@
 // The owner of a file: find_tsconfig_auto and resolve_tsconfig_solution.
 use claims::is_claimed;
+use components::count_components;
+use components::inside_node_modules;
+use ends::parent_len;
 use load::Whole;
 use load::load_record;
-use path::count_components;
-use path::inside_node_modules;
-use path::parent_len;
 use records::config_in;
 use sites::site_number;
 use text::Found;
@@ -14,8 +14,8 @@ ghost use mathlib.Core.Path.{_≡_};
 ghost use mathlib.Core.Option.{some, none};
 ghost use Prim.Native.Nat.{ℕ, _<_, _≤_};
 ghost use lib.ListN.{length};
-ghost use Rattle.text.specs.Bytes.{tsconfigJson};
-ghost use Rattle.path.specs.Path.{pushOf};
+ghost use Rattle.names.specs.Names.{tsconfigJson};
+ghost use Rattle.join.specs.Join.{pushOf};
 ghost use Rattle.book.specs.Answer.{given};
 ghost use Rattle.book.specs.Find.{find};
 ghost use Rattle.records.specs.Items.{foundNumber};

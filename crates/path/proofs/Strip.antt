@@ -13,11 +13,15 @@ use Rattle.text.specs.declared.Found.{Found}
 use Rattle.text.specs.declared.Found.the-variants.{At, Nothing}
 use Rattle.text.specs.declared.Part.{Part}
 use Rattle.text.specs.declared.Part.the-variants.{Span, Missing}
-use Rattle.path.specs.Path.{split, pieceOf, isSkip, starts, leadsDot, names, heads, components, sameList, leftOf, isSome, samePath, under, joined, ending, trimEnd, trimStart, leadOf, restOf, trimmed, leftPieces, stripPrefix}
-use Rattle.path.specs.Places.{nextPart, leftAt, leftAfter}
-use Rattle.path.proofs.Pieces.{by-test}
-use Rattle.path.proofs.Ends.{never, trimmed-front}
-use Rattle.path.proofs.Components.{piecesAt, pieces-within, piece-at, lead-front, lead-le, names-rest, names-as, names-missing, names-next, next-is, next-missing, same-by, under-by}
+use Rattle.components.specs.Components.{split, pieceOf, isSkip, starts, leadsDot, names, heads, components, trimStart, leadOf, restOf}
+use Rattle.path.specs.Path.{sameList, leftOf, isSome, samePath, under, leftPieces, stripPrefix}
+use Rattle.ends.specs.Ends.{joined, ending, trimEnd, trimmed}
+use Rattle.components.specs.Places.{nextPart}
+use Rattle.path.specs.Places.{leftAt, leftAfter}
+use Rattle.text.proofs.Picks.{by-test, never}
+use Rattle.ends.proofs.Ends.{trimmed-front}
+use Rattle.components.proofs.Components.{piecesAt, pieces-within, piece-at, lead-front, lead-le, names-rest, names-as, names-missing, names-next, next-is, next-missing}
+use Rattle.path.proofs.Under.{same-by, under-by}
 
 -- r, m and n are the answers of the calls
 module _ (p d : Text) (r : Bool) (e : r ≡ sameText (leadOf p) (leadOf d)) where

@@ -10,7 +10,9 @@ use lib.ListN.{length, drop, length-append, length-drop}
 use borrow.Author.Tests.{eq-eqb, lt-ltb, le-ltb}
 use Rattle.text.specs.Bytes.{Text}
 use Rattle.text.specs.Text.{sameText, someOf}
-use Rattle.path.specs.Path.{split, leadsDot, pieceOf, heads, components, leftOf, isSome, under, samePath, sameList, names, starts, extension}
+use Rattle.components.specs.Components.{split, leadsDot, pieceOf, heads, components, names, starts}
+use Rattle.path.specs.Path.{leftOf, isSome, under, samePath, sameList}
+use Rattle.ends.specs.Ends.{extension}
 use Rattle.book.specs.Answer.{Answer, refused, given}
 use Rattle.tsconfig.specs.Config.{Field, files, include, exclude}
 use Rattle.tsconfig.specs.Claims.{Site, allowJs, solutionStyle, noReferences, isEmptyList, claims, namedFile, included, excluded, outside}

@@ -8,7 +8,7 @@ use native.Mathlib.Omega.{arith}
 use lib.ListN.{length}
 use lib.Dec.{eqb, ltb}
 use Rattle.text.specs.Bytes.{Text}
-use Rattle.path.specs.Path.{insideNodeModules}
+use Rattle.components.specs.Components.{insideNodeModules}
 use Rattle.book.specs.declared.Cmd.{Cmd}
 use Rattle.book.specs.Answer.{Answer, refused, given, _>>=_, unless}
 use Rattle.book.specs.Command.{Decoded, ended, broken, command, decode}

@@ -7,9 +7,11 @@ use Prim.Native.Nat.{ℕ, zero, suc, _+_, _-_, _%_, _/_, _<_, _≤_}
 use native.Mathlib.Omega.{arith}
 use lib.ListN.{length, take, drop, length-append, length-map, length-reverse}
 use lib.Dec.{eqb, leb, ltb}
-use Rattle.text.specs.Bytes.{Text, dot, tsconfigJson}
-use Rattle.path.specs.Path.{starts, pushOf, insideNodeModules, components}
-use Rattle.path.proofs.Pieces.{by-test}
+use Rattle.text.specs.Bytes.{Text, dot}
+use Rattle.names.specs.Names.{tsconfigJson}
+use Rattle.components.specs.Components.{starts, insideNodeModules, components}
+use Rattle.join.specs.Join.{pushOf}
+use Rattle.text.proofs.Picks.{by-test}
 use Rattle.book.specs.declared.Cmd.{Cmd}
 use Rattle.book.specs.Answer.{Answer, refused, given, _>>=_, unless}
 use Rattle.book.specs.Command.{Decoded, ended, broken, command, decode, decodeAt, widthOf, noCommand, end}

@@ -9,8 +9,8 @@ use lib.ListN.{length, take, drop, length-take}
 use lib.Dec.{ltb, leb}
 use borrow.Author.Tests.{lt-ltb, le-ltb, leb-true}
 use Rattle.text.specs.Bytes.{Text}
-use Rattle.text.specs.Emit.{written, Emits}
-use Rattle.text.proofs.Emits.{written-whole}
+use Rattle.emit.specs.Emit.{written, Emits, Holds}
+use Rattle.emit.proofs.Emits.{written-whole}
 use Rattle.book.specs.Answer.{Answer, refused, given, _>>=_}
 use Rattle.book.specs.Book.{verdict}
 use Rattle.book.specs.declared.Cmd.{Cmd}
@@ -25,7 +25,6 @@ use Rattle.questions.specs.Replies.{numbersOf, Told, buildReply, buildOf
 use Rattle.questions.specs.declared.Opening.{Opening}
 use Rattle.questions.specs.declared.Opening.the-variants as opening
 use Rattle.text.specs.declared.Found.{Found}
-use Rattle.path.specs.Places.{Holds}
 use Rattle.book.specs.Index.{AcceptedAs, JudgedAs}
 use Rattle.book.specs.declared.Judged.{Judged}
 use Rattle.book.specs.declared.Judged.the-variants as judged

@@ -6,8 +6,9 @@ use mathlib.Core.Bool.{true, false}
 use mathlib.Core.Option.{Option, some, none}
 use Prim.Native.Nat.{ℕ, _+_, _<_}
 use lib.ListN.{length, take, drop}
-use Rattle.text.specs.Bytes.{Text, tsconfigJson}
-use Rattle.path.specs.Path.{pushOf}
+use Rattle.text.specs.Bytes.{Text}
+use Rattle.names.specs.Names.{tsconfigJson}
+use Rattle.join.specs.Join.{pushOf}
 use Rattle.book.specs.Answer.{given}
 use Rattle.book.specs.Find.{find, locate}
 use Rattle.tsconfig.specs.Claims.{Site, claimsOwnership, solution}

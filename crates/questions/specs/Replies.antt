@@ -5,7 +5,7 @@ use mathlib.Core.Bool.{Bool, true, _&&_, cond}
 use Prim.Native.Nat.{ℕ}
 use lib.ListN.{length}
 use Rattle.text.specs.Bytes.{Text}
-use Rattle.path.specs.Places.{Holds}
+use Rattle.emit.specs.Emit.{Holds}
 use Rattle.strings.specs.Strings.{askedPath, stringRule}
 use Rattle.book.specs.Answer.{refused, given, _>>=_}
 use Rattle.rows.specs.Rows.{Row, siteOf}

@@ -11,14 +11,16 @@ use lib.ListN.{length, getD, take, drop, length-append, drop-of-length-le}
 use lib.Seq.{drop-cons}
 use lib.Dec.{eqb}
 use borrow.Author.Tests.{eq-eqb, ne-eqb, eqb-true, eqb-false}
-use Rattle.text.specs.Bytes.{Text, slash, tsconfigJson, json}
+use Rattle.text.specs.Bytes.{Text, slash}
+use Rattle.names.specs.Names.{tsconfigJson, json}
 use Rattle.text.specs.Text.{prefixOf, sameText, someOf}
 use Rattle.text.specs.declared.Found.{Found}
 use Rattle.text.specs.declared.Found.the-variants.{At, Nothing}
 use Rattle.text.proofs.Scans.{same-length}
-use Rattle.path.specs.Path.{starts, isSome, joint, pushOf}
-use Rattle.path.specs.Places.{slashIf}
-use Rattle.path.proofs.Pieces.{by-test}
+use Rattle.components.specs.Components.{starts}
+use Rattle.path.specs.Path.{isSome}
+use Rattle.join.specs.Join.{joint, pushOf, slashIf}
+use Rattle.text.proofs.Picks.{by-test}
 use Rattle.book.specs.Record.{recordPathOf}
 use Rattle.book.specs.Index.{AcceptedAs}
 use Rattle.book.specs.Find.{find, isDir, configPath, locate}

@@ -33,7 +33,7 @@ fn same_names(s: &[u8], field: &[u8]) -> bool {
     let mut at = 0;
     let mut k = 0;
     while k < field.len() {
-        let Part::Span(a, e) = path::next_component(s, at) else {
+        let Part::Span(a, e) = components::next_component(s, at) else {
             return false;
         };
         let listed = part_before(from(field, k), MARK);
@@ -50,7 +50,7 @@ fn same_names(s: &[u8], field: &[u8]) -> bool {
         }
         at = e + 1;
     }
-    match path::next_component(s, at) {
+    match components::next_component(s, at) {
         Part::Span(_, _) => false,
         Part::Missing => true,
     }
@@ -58,7 +58,7 @@ fn same_names(s: &[u8], field: &[u8]) -> bool {
 
 // Whether the components of s are those of a field.
 fn same_components(s: &[u8], field: &[u8]) -> bool {
-    let lead = path::lead_len(s);
+    let lead = components::lead_len(s);
     if lead == 0 {
         return same_names(s, field);
     }
@@ -77,22 +77,22 @@ fn one_agrees(line: &[u8]) -> bool {
     let l5 = part_after(l4, TAB);
     let l6 = part_after(l5, TAB);
     let l7 = part_after(l6, TAB);
-    if !same_text(path::parent(s), part_before(l2, TAB)) {
+    if !same_text(ends::parent(s), part_before(l2, TAB)) {
         return false;
     }
     if !same_components(s, part_before(l3, TAB)) {
         return false;
     }
-    if !agrees(s, path::file_name(s), part_before(l4, TAB)) {
+    if !agrees(s, ends::file_name(s), part_before(l4, TAB)) {
         return false;
     }
-    if !agrees(s, path::extension(s), part_before(l5, TAB)) {
+    if !agrees(s, ends::extension(s), part_before(l5, TAB)) {
         return false;
     }
     if strings::is_normal(s) != is_yes(part_before(l6, TAB)) {
         return false;
     }
-    path::inside_node_modules(s) == is_yes(l7)
+    components::inside_node_modules(s) == is_yes(l7)
 }
 
 // Whether `a` joined with b is what a field says.
@@ -104,7 +104,7 @@ fn join_agrees(a: &[u8], b: &[u8], field: &[u8]) -> bool {
         return false;
     }
     let mut out = [0u8; 2048];
-    let n = path::join(&mut out, 0, a, b);
+    let n = join::join(&mut out, 0, a, b);
     same_text(upto(&out, n), field)
 }
 
@@ -117,7 +117,7 @@ fn normalize_agrees(a: &[u8], b: &[u8], field: &[u8]) -> bool {
         return false;
     }
     let mut out = [0u8; 2048];
-    let n = path::normalize_with(a, b, &mut out);
+    let n = join::normalize_with(a, b, &mut out);
     same_text(upto(&out, n), field)
 }
 

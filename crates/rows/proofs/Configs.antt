@@ -10,8 +10,9 @@ use lib.ListN.{length, getD, length-set, List·getD-eq-default}
 use lib.Seq.{getD-set-same, getD-set-other}
 use borrow.Author.Tests.{eqb-true, eqb-false, eq-eqb, ne-eqb, ltb-true, ltb-false}
 use Rattle.text.specs.Bytes.{Text}
-use Rattle.path.specs.Path.{isSome, parentOf}
-use Rattle.path.proofs.Pieces.{by-test}
+use Rattle.path.specs.Path.{isSome}
+use Rattle.ends.specs.Ends.{parentOf}
+use Rattle.text.proofs.Picks.{by-test}
 use Rattle.book.specs.declared.Cmd.{Cmd}
 use Rattle.book.specs.Record.{recordPathOf}
 use Rattle.book.specs.Index as index

@@ -11,8 +11,8 @@ use borrow.Author.Tests.{eqb-true, eqb-false, eq-eqb, ne-eqb, lt-ltb, ltb-true, 
 use Rattle.text.specs.Bytes.{Text}
 use Rattle.text.specs.declared.Found.{Found}
 use Rattle.text.specs.declared.Found.the-variants.{At, Nothing}
-use Rattle.path.specs.Path.{parentOf}
-use Rattle.path.proofs.Pieces.{by-test}
+use Rattle.ends.specs.Ends.{parentOf}
+use Rattle.text.proofs.Picks.{by-test}
 use Rattle.book.specs.Command as command
 use Rattle.book.specs.Record.{recordPathOf, single, strings}
 use Rattle.book.specs.Index as index

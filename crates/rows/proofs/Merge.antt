@@ -8,7 +8,7 @@ use lib.Dec.{eqb}
 use lib.ListN.{length, getD, set, length-set}
 use lib.Seq.{getD-set-same, getD-set-other}
 use borrow.Author.Tests.{eqb-true, eqb-false, eq-eqb, ne-eqb}
-use Rattle.path.proofs.Pieces.{by-test}
+use Rattle.text.proofs.Picks.{by-test}
 use Rattle.rows.specs.Rows.{absent}
 use Rattle.rows.specs.Merge.{nearer, baseBy, mergedTo, mergedRow}
 use Rattle.rows.proofs.Lists.{getD-any}

@@ -7,9 +7,9 @@ use lib.Dec.{ltb}
 use lib.ListN.{length, getD, set, take, drop, length-take, length-drop}
 use lib.Seq.{getD-set-other, getD-take, getD-drop, ext-getD, take-at, drop-at, length-take-le}
 use borrow.Author.Tests.{ltb-true, ltb-false}
-use Rattle.text.specs.Emit.{written}
-use Rattle.text.proofs.Emits.{written-in, written-length}
-use Rattle.path.proofs.Pieces.{by-test}
+use Rattle.emit.specs.Emit.{written}
+use Rattle.emit.proofs.Emits.{written-in, written-length}
+use Rattle.text.proofs.Picks.{by-test}
 use Rattle.rows.specs.Rows.{absent, rowAt}
 
 -- what is written changes no other place

@@ -7,7 +7,7 @@ use lib.ListN.{length, getD}
 use Rattle.text.specs.Bytes.{Text}
 use Rattle.text.specs.declared.Found.{Found}
 use Rattle.text.specs.declared.Found.the-variants.{At, Nothing}
-use Rattle.path.specs.Path.{parentOf}
+use Rattle.ends.specs.Ends.{parentOf}
 use Rattle.book.specs.declared.Cmd.{Cmd}
 use Rattle.book.specs.Answer.{Answer, refused, given}
 use Rattle.book.specs.Book.{verdict}

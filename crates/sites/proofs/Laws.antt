@@ -7,8 +7,8 @@ use lib.ListN.{length, getD}
 use Rattle.text.specs.Bytes.{Text}
 use Rattle.text.specs.declared.Found.{Found}
 use Rattle.text.specs.declared.Found.the-variants.{At, Nothing}
-use Rattle.path.specs.Path.{parentOf}
-use Rattle.path.specs.Places.{Holds}
+use Rattle.ends.specs.Ends.{parentOf}
+use Rattle.emit.specs.Emit.{Holds}
 use Rattle.book.specs.Index.{recordAt}
 use Rattle.book.specs.Record.{recordPathOf, single}
 use Rattle.book.specs.Command as command

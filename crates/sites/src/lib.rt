@@ -8,8 +8,8 @@ use values::dir_at;
 ghost use mathlib.Core.Path.{_≡_};
 ghost use Prim.Native.Nat.{_≤_};
 ghost use lib.ListN.{length};
-ghost use Rattle.path.specs.Path.{parentOf};
-ghost use Rattle.path.specs.Places.{Holds};
+ghost use Rattle.ends.specs.Ends.{parentOf};
+ghost use Rattle.emit.specs.Emit.{Holds};
 ghost use Rattle.rows.specs.Rows.{numberOf, Row, siteOf};
 ghost use Rattle.rows.specs.Records.{Records, recordsOf};
 

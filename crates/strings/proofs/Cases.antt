@@ -5,9 +5,11 @@ use mathlib.Core.Bool.{Bool, true, false, not, _&&_, _||_, cond}
 use Prim.Native.Nat.{ℕ}
 use Prim.Native.String.{String}
 use lib.ListN.{replicate}
-use Rattle.text.specs.Bytes.{Text, bytes, slash, star, configDir}
+use Rattle.text.specs.Bytes.{Text, bytes, slash, star}
+use Rattle.names.specs.Names.{configDir}
 use Rattle.text.specs.Text.{prefixOf, sameText, someOf, eachOf}
-use Rattle.path.specs.Path.{onFirst, split, pieceOf, isName, starts, normal}
+use Rattle.components.specs.Components.{onFirst, split, pieceOf, isName, starts}
+use Rattle.path.specs.Path.{normal}
 use Rattle.strings.specs.Strings.{stringRule, recordPath, leadRule, afterConfigDir, twoStars, wholeStars, patternText, patternRule, covers, askedPath}
 
 pub data Case : Type 0 where

@@ -12,7 +12,7 @@ use lib.Bits.{bitOr, bitAnd, bitXor, or-add-and, xor-add-and, and-le-l, and-le-r
 use borrow.Author.Tests.{eq-eqb, ne-eqb, eqb-true, eqb-false}
 use Rattle.text.specs.Bytes.{Text, bytes}
 use Rattle.text.specs.Text.{prefixOf, someOf, eachOf}
-use Rattle.path.proofs.Pieces.{by-test}
+use Rattle.text.proofs.Picks.{by-test}
 use Rattle.strings.specs.Strings.{noneOf}
 use Rattle.strings.specs.Scan.{flag}
 

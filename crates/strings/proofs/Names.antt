@@ -12,11 +12,12 @@ use lib.Bits.{bitOr, bitAnd}
 use borrow.Author.Tests.{eq-eqb, ne-eqb}
 use Rattle.text.specs.Bytes.{Text, slash, dot}
 use Rattle.text.specs.Text.{eachOf}
-use Rattle.path.specs.Path.{split, onFirst, pieceOf, isName, starts, normal}
-use Rattle.path.specs.Places.{firstOf}
-use Rattle.path.specs.declared.Piece.the-variants.{Skip, Up, Name}
-use Rattle.path.proofs.Pieces.{by-test}
-use Rattle.path.proofs.Names.{normal-deep}
+use Rattle.components.specs.Components.{split, onFirst, pieceOf, isName, starts}
+use Rattle.path.specs.Path.{normal}
+use Rattle.components.specs.Places.{firstOf}
+use Rattle.components.specs.declared.Piece.the-variants.{Skip, Up, Name}
+use Rattle.text.proofs.Picks.{by-test}
+use Rattle.path.proofs.Normal.{normal-deep}
 use Rattle.strings.specs.Scan.{flag, nameless, namesBehind}
 use Rattle.strings.proofs.Gather.{Gathered, gather-step, gather-end, flag-none, or-flag, and-flag}
 

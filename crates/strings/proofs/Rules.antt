@@ -7,10 +7,12 @@ use native.Mathlib.Omega.{arith}
 use lib.ListN.{length, getD, drop, length-append}
 use lib.Dec.{eqb, leb}
 use borrow.Author.Tests.{eq-eqb, ne-eqb, le-leb, lt-leb}
-use Rattle.text.specs.Bytes.{Text, bytes, slash, star, configDir}
+use Rattle.text.specs.Bytes.{Text, bytes, slash, star}
+use Rattle.names.specs.Names.{configDir}
 use Rattle.text.specs.Text.{prefixOf, someOf, eachOf}
 use Rattle.text.proofs.Scans.{prefix-short}
-use Rattle.path.specs.Path.{split, starts, normal}
+use Rattle.components.specs.Components.{split, starts}
+use Rattle.path.specs.Path.{normal}
 use Rattle.strings.specs.Strings.{noneOf, plainByte, stringRule, recordPath, leadRule, afterConfigDir, wholeStars, patternText, patternRule, covers, askedPath}
 use Rattle.strings.specs.Scan.{flag, starsApart}
 use Rattle.strings.proofs.Gather.{flag-none}

@@ -12,9 +12,9 @@ use lib.Bits.{bitOr, bitAnd, bitXor}
 use borrow.Author.Tests.{eqb-true, eq-eqb, ne-eqb}
 use Rattle.text.specs.Bytes.{Text, bytes, slash, star}
 use Rattle.text.specs.Text.{prefixOf, sameText, eachOf}
-use Rattle.path.specs.Path.{split, onFirst}
-use Rattle.path.specs.Places.{firstOf}
-use Rattle.path.proofs.Pieces.{by-test}
+use Rattle.components.specs.Components.{split, onFirst}
+use Rattle.components.specs.Places.{firstOf}
+use Rattle.text.proofs.Picks.{by-test}
 use Rattle.strings.specs.Strings.{twoStars, wholeStars}
 use Rattle.strings.specs.Scan.{flag, crowded, clear, starsApart}
 use Rattle.strings.proofs.Gather.{Gathered, gather-step, gather-end, flag-none, or-flag, and-flag, not-flag}

@@ -8,9 +8,10 @@ use lib.Bits.{bitXor}
 use lib.ListN.{length, getD, take, drop, drop-of-length-le}
 use lib.Seq.{drop-cons}
 use lib.Dec.{eqb, leb}
-use Rattle.text.specs.Bytes.{Text, bytes, configDir}
+use Rattle.text.specs.Bytes.{Text, bytes}
+use Rattle.names.specs.Names.{configDir}
 use Rattle.text.specs.Text.{prefixOf, someOf, eachOf}
-use Rattle.path.proofs.Pieces.{by-test}
+use Rattle.text.proofs.Picks.{by-test}
 use Rattle.strings.specs.Strings.{noneOf, plainByte, stringRule, patternRule}
 use Rattle.strings.specs.Scan.{starsApart, tameText, digestFrom}
 use Rattle.strings.proofs.Rules.{pattern-stars, pattern-whole}

@@ -4,9 +4,11 @@ use mathlib.Core.List.{List, [], _∷_, _++_}
 use mathlib.Core.Bool.{Bool, true, false, not, _&&_, _||_, cond}
 use lib.ListN.{length, drop}
 use lib.Dec.{eqb, leb}
-use Rattle.text.specs.Bytes.{Text, bytes, slash, star, configDir}
+use Rattle.text.specs.Bytes.{Text, bytes, slash, star}
+use Rattle.names.specs.Names.{configDir}
 use Rattle.text.specs.Text.{prefixOf, sameText, someOf, eachOf}
-use Rattle.path.specs.Path.{split, starts, normal}
+use Rattle.components.specs.Components.{split, starts}
+use Rattle.path.specs.Path.{normal}
 
 -- x is none of the bytes
 abbrev pub noneOf : Text → ℕ → Bool

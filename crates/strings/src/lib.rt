@@ -1,12 +1,12 @@
 // The rules of strings and paths: what refusal 4 tests in a book, and 7 in a question. Each rule that looks at every byte gathers its
 // verdict by an or of bytes and never leaves early: such a loop works on many bytes at a time.
-use path::is_absolute;
+use components::is_absolute;
+use names::has_config_dir;
 use text::DOT;
 use text::QUESTION;
 use text::SLASH;
 use text::STAR;
 use text::from;
-use text::has_config_dir;
 ghost use mathlib.Core.Path.{_≡_};
 ghost use mathlib.Core.List.{[], _∷_};
 ghost use mathlib.Core.Bool.{true, not, _&&_};

@@ -2,4 +2,3 @@
 pub mod Picks
 pub mod Scans
 pub mod Parts
-pub mod Emits

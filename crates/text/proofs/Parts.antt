@@ -1,13 +1,13 @@
 -- Laws of the parts of a text. Assumes nothing.
 use mathlib.Core.Path.{_≡_, refl, ap, sym, _∙_}
 use mathlib.Core.List.{List, [], _∷_}
-use Prim.Native.Nat.{ℕ, zero, suc, _+_, _-_, _≤_, _<_}
+use Prim.Native.Nat.{ℕ, zero, suc, _+_, _-_, _≤_}
 use native.Mathlib.Omega.{arith}
-use lib.ListN.{length, take, drop, length-take, length-drop, drop-of-length-le}
-use lib.Seq.{take-all}
+use lib.ListN.{length, take, drop, length-drop, drop-of-length-le}
+use lib.Seq.{take-all, take-nil, take-take, drop-drop}
 use Rattle.text.specs.Bytes.{Text}
+use Rattle.text.proofs.Picks.{by-test}
 use lib.Dec.{eqb}
-use mathlib.Core.Bool.{Bool, true, false, cond}
 use Rattle.text.specs.Text.{findFrom, find, between, beforeByte, afterByte}
 use Rattle.text.specs.declared.Found.{Found}
 use Rattle.text.specs.declared.Found.the-variants.{At, Nothing}
@@ -27,11 +27,21 @@ module _ (s : Text) (k : ℕ) where
 pub between-none : (s : Text) (a e : ℕ) → e ≤ a → [] ≡ between a e s
 between-none s a e h = let z : e - a ≡ 0 = omega arith in rw z
 
--- What stands before and after the first place of a byte, as a search finds it
+-- A part of a part
 
-by-test : {X : Type 0} (t : Bool) → (t ≡ true → X) → (t ≡ false → X) → X
-by-test true f g = f refl
-by-test false f g = g refl
+pub drop-take : {A : Type 0} (k n : ℕ) (l : List A) → drop k (take n l) ≡ take (n - k) (drop k l)
+drop-take zero n l = let z : n - 0 ≡ n = omega arith in rw z
+drop-take (suc k) zero l = let z : 0 - suc k ≡ 0 = omega arith in rw z
+drop-take (suc k) (suc n) [] = sym (take-nil (suc n - suc k))
+drop-take (suc k) (suc n) (x ∷ l) = let z : suc n - suc k ≡ n - k = omega arith in rw z (drop-take k n l)
+
+pub between-later : (s : Text) (a e k : ℕ) → drop k (between a e s) ≡ between (a + k) e s
+between-later s a e k = let z : e - a - k ≡ e - (a + k) = omega arith in drop-take k (e - a) (drop a s) ∙ rw (drop-drop k a s, z)
+
+pub between-less : (s : Text) (a e k : ℕ) → k ≤ e - a → take k (between a e s) ≡ between a (a + k) s
+between-less s a e k h = let z : a + k - a ≡ k = omega arith in rw z (take-take k (e - a) (drop a s) h)
+
+-- What stands before and after the first place of a byte, as a search finds it
 
 at-nothing : (j : ℕ) → At j ≡ Nothing → ⊥
 at-nothing j e = let z : _≡_ {A = ℕ} 0 1 = cc in omega arith

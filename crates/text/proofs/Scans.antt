@@ -1,8 +1,8 @@
 -- Laws of the tests and searches: what one step of a scan does to them. Assumes nothing.
 use mathlib.Core.Path.{_≡_, refl, ap, sym, _∙_}
-use mathlib.Core.List.{List, [], _∷_, _++_}
-use mathlib.Core.Bool.{Bool, true, false, _&&_, _||_, and-false, or-false, cond}
-use Prim.Native.Nat.{ℕ, zero, suc, _+_, _-_, _≤_, _<_}
+use mathlib.Core.List.{[], _∷_, _++_}
+use mathlib.Core.Bool.{Bool, true, false, and-false, cond}
+use Prim.Native.Nat.{ℕ, suc, _+_, _-_, _≤_, _<_}
 use native.Mathlib.Numerals.{add-one}
 use native.Mathlib.Nat.{add-zero, add-suc, suc-add}
 use native.Mathlib.Omega.{arith}
@@ -11,7 +11,7 @@ use lib.Seq.{drop-cons, take-suc, take-length, length-take-le}
 use lib.Dec.{eqb}
 use borrow.Author.Tests.{eq-eqb, ne-eqb}
 use Rattle.text.specs.Bytes.{Text}
-use Rattle.text.specs.Text.{prefixOf, sameText, someOf, findFrom, find, findLastFrom, findLast}
+use Rattle.text.specs.Text.{prefixOf, sameText, findFrom, find, findLastFrom, findLast}
 use Rattle.text.specs.declared.Found.{Found}
 use Rattle.text.specs.declared.Found.the-variants.{At, Nothing}
 
@@ -50,27 +50,6 @@ same-length [] [] e = absurd (e refl)
 same-length [] (y ∷ b) e = refl
 same-length (x ∷ a) [] e = refl
 same-length (x ∷ a) (y ∷ b) e = rw (same-length a b (omega arith)) (and-false (eqb x y))
-
--- One of four: r₁ to r₄ are the answers of the tests made so far
-
-module _ (ok : Text → Bool) (a b c d : Text) (r₁ : Bool) (e₁ : r₁ ≡ ok a) where
-  pub some-1 : r₁ ≡ true → true ≡ someOf ok (a ∷ b ∷ c ∷ d ∷ [])
-  unfolding someOf
-  some-1 t = rw (← e₁, t)
-
-  module _ (f₁ : r₁ ≡ false) (r₂ : Bool) (e₂ : r₂ ≡ ok b) where
-    pub some-2 : r₂ ≡ true → true ≡ someOf ok (a ∷ b ∷ c ∷ d ∷ [])
-    unfolding someOf
-    some-2 t = rw (← e₁, f₁, ← e₂, t)
-
-    module _ (f₂ : r₂ ≡ false) (r₃ : Bool) (e₃ : r₃ ≡ ok c) where
-      pub some-3 : r₃ ≡ true → true ≡ someOf ok (a ∷ b ∷ c ∷ d ∷ [])
-      unfolding someOf
-      some-3 t = rw (← e₁, f₁, ← e₂, f₂, ← e₃, t)
-
-      pub some-4 : r₃ ≡ false → (r₄ : Bool) → r₄ ≡ ok d → r₄ ≡ someOf ok (a ∷ b ∷ c ∷ d ∷ [])
-      unfolding someOf
-      some-4 t r₄ e₄ = rw (← e₁, f₁, ← e₂, f₂, ← e₃, t, ← e₄) (sym (or-false r₄))
 
 -- The first place of a byte
 

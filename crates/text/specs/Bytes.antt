@@ -1,4 +1,4 @@
--- Byte strings, the bytes that have a meaning, and the fixed names.
+-- Byte strings, and the bytes that have a meaning.
 use Prim.Native.Nat.{ℕ}
 use Prim.Native.Char.{code}
 use Prim.Native.String.{String}
@@ -29,19 +29,3 @@ star = 0x2A
 -- `?`
 abbrev pub question : ℕ
 question = 0x3F
-
--- "`${configDir}` is compared as its twelve bytes"
-abbrev pub configDir : Text
-configDir = bytes "${configDir}"
-
--- "inside `node_modules`"
-abbrev pub nodeModules : Text
-nodeModules = bytes "node_modules"
-
--- "a directory means its `tsconfig.json`"
-abbrev pub tsconfigJson : Text
-tsconfigJson = bytes "tsconfig.json"
-
--- "else `.json` is appended"
-abbrev pub json : Text
-json = bytes ".json"

@@ -5,7 +5,7 @@ use mathlib.Core.Bool.{Bool, true, false, _&&_, _||_, cond}
 use mathlib.Core.Option.{Option, some, none}
 use lib.Dec.{eqb}
 use lib.ListN.{take, drop}
-use Rattle.text.specs.Bytes.{Text, bytes, star, slash, configDir, nodeModules, tsconfigJson, json}
+use Rattle.text.specs.Bytes.{Text, star}
 use Rattle.text.specs.declared.Found.{Found}
 use Rattle.text.specs.declared.Found.the-variants.{At, Nothing}
 use Rattle.text.specs.declared.Part.{Part}
@@ -33,14 +33,6 @@ someOf ok (x ∷ xs) = ok x || someOf ok xs
 unfoldable pub eachOf : {A : Type 0} → (A → Bool) → List A → Bool
 eachOf ok [] = true
 eachOf ok (x ∷ xs) = ok x && eachOf ok xs
-
--- is_file_extension_allowed_in_tsconfig: TS_EXTENSIONS
-abbrev pub isTsExtension : Text → Bool
-isTsExtension s = someOf (sameText s) (bytes "ts" ∷ bytes "tsx" ∷ bytes "mts" ∷ bytes "cts" ∷ [])
-
--- is_file_extension_allowed_in_tsconfig: JS_EXTENSIONS
-abbrev pub isJsExtension : Text → Bool
-isJsExtension s = someOf (sameText s) (bytes "js" ∷ bytes "jsx" ∷ bytes "mjs" ∷ bytes "cjs" ∷ [])
 
 -- where a byte first stands in a text whose first byte is at i
 unfoldable pub findFrom : ℕ → ℕ → Text → Found

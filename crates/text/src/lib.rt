@@ -1,11 +1,7 @@
-// Byte strings: equality, prefixes, the fixed names, searches, parts, and the emitter of lent output.
+// Byte strings: equality, prefixes, searches and parts.
 ghost use mathlib.Core.Path.{_≡_};
-ghost use mathlib.Core.List.{[], _∷_};
-ghost use Prim.Native.Nat.{_<_};
-ghost use lib.ListN.{length, take, drop};
-ghost use Rattle.text.specs.Bytes.{configDir, nodeModules, tsconfigJson, json};
-ghost use Rattle.text.specs.Text.{prefixOf, sameText, someOf, isTsExtension, isJsExtension, find, starOf, findLast, between, beforeByte, afterByte};
-ghost use Rattle.text.specs.Emit.{Room, Emits};
+ghost use lib.ListN.{take, drop};
+ghost use Rattle.text.specs.Text.{prefixOf, sameText, find, starOf, findLast, between, beforeByte, afterByte};
 
 pub const SLASH: u8 = b'/';
 
@@ -52,59 +48,6 @@ pub fn same_text(a: &[u8], b: &[u8]) -> bool
         return false;
     }
     starts_with(a, b)
-}
-
-// Whether s starts with the twelve bytes `${configDir}`.
-pub fn has_config_dir(s: &[u8]) -> bool
-    ensures { λ r. ⌜ r ≡ prefixOf configDir (now (s .entry)) ⌝ }
-{
-    starts_with(s, b"${configDir}")
-}
-
-pub fn is_node_modules(s: &[u8]) -> bool
-    ensures { λ r. ⌜ r ≡ sameText (now (s .entry)) nodeModules ⌝ }
-{
-    same_text(s, b"node_modules")
-}
-
-pub fn is_tsconfig_json(s: &[u8]) -> bool
-    ensures { λ r. ⌜ r ≡ sameText (now (s .entry)) tsconfigJson ⌝ }
-{
-    same_text(s, b"tsconfig.json")
-}
-
-pub fn is_json(s: &[u8]) -> bool
-    ensures { λ r. ⌜ r ≡ sameText (now (s .entry)) json ⌝ }
-{
-    same_text(s, b".json")
-}
-
-// Whether s is one of four texts.
-fn one_of(s: &[u8], a: &[u8], b: &[u8], c: &[u8], d: &[u8]) -> bool
-    ensures { λ r. ⌜ r ≡ someOf (sameText (now (s .entry))) (now (a .entry) ∷ now (b .entry) ∷ now (c .entry) ∷ now (d .entry) ∷ []) ⌝ }
-{
-    if same_text(s, a) {
-        return true;
-    }
-    if same_text(s, b) {
-        return true;
-    }
-    if same_text(s, c) {
-        return true;
-    }
-    same_text(s, d)
-}
-
-pub fn is_ts_extension(s: &[u8]) -> bool
-    ensures { λ r. ⌜ r ≡ isTsExtension (now (s .entry)) ⌝ }
-{
-    one_of(s, b"ts", b"tsx", b"mts", b"cts")
-}
-
-pub fn is_js_extension(s: &[u8]) -> bool
-    ensures { λ r. ⌜ r ≡ isJsExtension (now (s .entry)) ⌝ }
-{
-    one_of(s, b"js", b"jsx", b"mjs", b"cjs")
 }
 
 // Where b first stands in s.
@@ -190,33 +133,4 @@ pub fn part_after(s: &[u8], b: u8) -> &[u8]
         return upto(s, 0);
     };
     from(s, i + 1)
-}
-
-// Writes b at `at` where the output reaches so far, and counts it.
-pub fn put(out: &mut [u8], at: usize, b: u8) -> usize
-    requires { ⌜ Room at (b ∷ []) ⌝ }
-    ensures { λ r. ⌜ Emits (b ∷ []) (now (out .entry)) at (now (out .exit)) r ⌝ }
-{
-    if at < out.len() {
-        out[at] = b;
-        return at + 1;
-    }
-    at + 1
-}
-
-// Writes s from `at` on as far as the output reaches, and counts all of it.
-pub fn put_text(out: &mut [u8], at: usize, s: &[u8]) -> usize
-    requires { ⌜ Room at (now s) ⌝ }
-    ensures { λ r. ⌜ Emits (now (s .entry)) (now (out .entry)) at (now (out .exit)) r ⌝ }
-{
-    if out.len() <= at {
-        return at + s.len();
-    }
-    let mut i = 0;
-    let mut k = at;
-    while i < s.len() {
-        k = put(out, k, s[i]);
-        i += 1;
-    }
-    k
 }

@@ -7,11 +7,11 @@ use Prim.Native.Nat.{ℕ, _+_, _*_, _^_, _≤_, _<_}
 use native.Mathlib.Omega.{arith}
 use lib.ListN.{length, take, length-append}
 use Rattle.text.specs.Bytes.{Text}
-use Rattle.text.specs.Emit.{Emits}
-use Rattle.text.proofs.Emits.{Owes, owes-all, owes-step, owes-end, emits-none, emits-length}
-use Rattle.path.specs.Path.{samePath, normalizeWith}
-use Rattle.path.specs.Places.{Holds}
-use Rattle.path.proofs.Pieces.{by-test}
+use Rattle.emit.specs.Emit.{Emits, Holds}
+use Rattle.emit.proofs.Emits.{Owes, owes-all, owes-step, owes-end, emits-none, emits-length}
+use Rattle.path.specs.Path.{samePath}
+use Rattle.join.specs.Join.{normalizeWith}
+use Rattle.text.proofs.Picks.{by-test}
 use Rattle.book.specs.declared.Cmd.{Cmd}
 use Rattle.book.specs.Command.{rootDir}
 use Rattle.book.specs.Rules.{textOf}

@@ -10,7 +10,7 @@ use lib.ListN.{length, take}
 use borrow.Author.Tests.{lt-ltb, le-ltb}
 use Rattle.text.specs.Bytes.{Text}
 use Rattle.path.specs.Path.{under}
-use Rattle.path.specs.Places.{Holds}
+use Rattle.emit.specs.Emit.{Holds}
 use Rattle.book.specs.declared.Cmd.{Cmd}
 use Rattle.book.specs.Command.{rootDir}
 use Rattle.book.specs.Rules.{textOf}

@@ -8,15 +8,16 @@ use native.Mathlib.Omega.{arith}
 use lib.ListN.{length, getD, take, drop, length-append, length-take, length-drop}
 use Rattle.text.specs.Bytes.{Text, dot}
 use Rattle.text.specs.Text.{someOf, between, partOf}
-use Rattle.text.specs.Emit.{Room, Emits}
+use Rattle.emit.specs.Emit.{Room, Emits, Holds}
 use Rattle.text.specs.declared.Found.{Found}
 use Rattle.text.specs.declared.Found.the-variants as found
 use Rattle.text.specs.declared.Part.{Part}
 use Rattle.text.specs.declared.Part.the-variants as part
-use Rattle.text.proofs.Emits.{emits-both}
-use Rattle.path.specs.Path.{starts, isSome, stripPrefix, insideNodeModules, normalizeWith}
-use Rattle.path.specs.Places.{Holds}
-use Rattle.path.proofs.Pieces.{by-test}
+use Rattle.emit.proofs.Emits.{emits-both}
+use Rattle.components.specs.Components.{starts, insideNodeModules}
+use Rattle.path.specs.Path.{isSome, stripPrefix}
+use Rattle.join.specs.Join.{normalizeWith}
+use Rattle.text.proofs.Picks.{by-test}
 use Rattle.book.specs.declared.Cmd.{Cmd}
 use Rattle.book.specs.Command as command
 use Rattle.book.specs.Rules.{textOf}

@@ -2,14 +2,14 @@
 // with a dot, the path itself and its like in the other root dirs.
 use book::ROOT_DIR;
 use book::string_of;
+use components::inside_node_modules;
+use join::normalize_with;
 use mapping::Listed;
 use mapping::put_aliases;
 use mapping::put_path;
 use mapping::put_read;
 use mapping::starts_dot;
-use path::inside_node_modules;
 use path::lies_under;
-use path::normalize_with;
 use path::same_path;
 use path::strip_prefix;
 use records::Item;
@@ -26,7 +26,7 @@ ghost use mathlib.Core.Path.{_≡_};
 ghost use mathlib.Core.Option.{some, none};
 ghost use Prim.Native.Nat.{_≤_};
 ghost use lib.ListN.{length};
-ghost use Rattle.path.specs.Path.{normalizeWith};
+ghost use Rattle.join.specs.Join.{normalizeWith};
 ghost use Rattle.tsconfig.specs.Config.{rootDirs};
 ghost use Rattle.tsconfig.specs.Mapping.{inRoots, rootTries, tries};
 ghost use Rattle.rows.specs.Records.{Records, recordsOf, dirOf};

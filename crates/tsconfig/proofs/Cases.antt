@@ -22,9 +22,12 @@ use Rattle.book.specs.Book.{next, finish, judge}
 use Rattle.book.specs.Command.{widthOf, operands, decodeAt, decode}
 use Rattle.book.specs.Record.{only, firstOf, strings, single, listed, targetsOf, keysOf, mapping, optionOf, recordPathOf, flagOf}
 use Rattle.book.specs.Rules.{textOf, slot, tally, inRange, opened, fresh, follows, inOrder, tooMany, ownRule, goodString, pathOf, keysOf as keysOf-in-Rules, clash, givenBefore, faultOf, fault}
+use Rattle.components.specs.Components.{onFirst, split, pieceOf, starts, leadsDot, names, heads, components, trimStart, leadOf, insideNodeModules}
+use Rattle.ends.specs.Ends.{joined, ending, trimEnd, allButLast, trimmed, withoutLast, parentOf, lastOf, lastPiece, ifName, fileName, afterDot, extensionOf, extension}
 use Rattle.glob.specs.Glob.{afterStars, afterStar, tokenAt, tokens, eat, after, afterDirs, matchTokens, globOf}
+use Rattle.join.specs.Join.{joint, pushOf, stepBy, stepOf, walkOf, normalizeWith}
 use Rattle.keys.specs.Keys.{matchesAt, partAt, keyPart}
-use Rattle.path.specs.Path.{onFirst, split, pieceOf, starts, leadsDot, names, heads, components, sameList, leftOf, isSome, samePath, under, joined, ending, trimEnd, trimStart, allButLast, leadOf, trimmed, withoutLast, parentOf, leftPieces, stripPrefix, lastOf, lastPiece, ifName, fileName, afterDot, extensionOf, extension, joint, pushOf, stepBy, stepOf, walkOf, normalizeWith, normal, insideNodeModules}
+use Rattle.path.specs.Path.{sameList, leftOf, isSome, samePath, under, leftPieces, stripPrefix, normal}
 use Rattle.strings.specs.Strings.{stringRule, recordPath, leadRule, afterConfigDir, twoStars, patternText, patternRule, covers}
 use Rattle.text.specs.Text.{prefixOf, sameText, someOf, eachOf, findFrom, findLastFrom}
 use Rattle.tsconfig.specs.Build.{withoutSlashes, inConfigDir, substituted, adjusted, builtValue}
@@ -202,5 +205,5 @@ table =
     ∷ []
 
 pub cases : map (λ r. answer (r .ask)) table ≡ map (λ r. map bytes (r .told)) table
-unfolding verdict built claims claimsOwnership solution merge listing candidates tries parsed next finish judge widthOf operands decodeAt decode only firstOf strings single listed targetsOf keysOf mapping optionOf recordPathOf flagOf textOf slot tally inRange opened fresh follows inOrder tooMany ownRule goodString pathOf keysOf-in-Rules clash givenBefore faultOf fault afterStars afterStar tokenAt tokens eat after afterDirs matchTokens globOf matchesAt partAt keyPart onFirst split pieceOf starts leadsDot names heads components sameList leftOf isSome samePath under joined ending trimEnd trimStart allButLast leadOf trimmed withoutLast parentOf leftPieces stripPrefix lastOf lastPiece ifName fileName afterDot extensionOf extension joint pushOf stepBy stepOf walkOf normalizeWith normal insideNodeModules stringRule recordPath leadRule afterConfigDir twoStars patternText patternRule covers prefixOf sameText someOf eachOf findFrom findLastFrom withoutSlashes inConfigDir substituted adjusted builtValue allowed outside ends implied matched included excluded namedFile isEmptyList noReferences solutionStyle mapped row rows items keyRows mapping-in-Listing decimal ifNamed flagRow textRow flags texts equalKey prefixLen longer bestKey filledAt filled fromBest fromEqual fromPaths aliases fromBaseUrl orIfNone longerText rootAbove inRoots fromRoot rootTries placed placedValue ownBase parse said
+unfolding verdict built claims claimsOwnership solution merge listing candidates tries parsed next finish judge widthOf operands decodeAt decode only firstOf strings single listed targetsOf keysOf mapping optionOf recordPathOf flagOf textOf slot tally inRange opened fresh follows inOrder tooMany ownRule goodString pathOf keysOf-in-Rules clash givenBefore faultOf fault onFirst split pieceOf starts leadsDot names heads components trimStart leadOf insideNodeModules joined ending trimEnd allButLast trimmed withoutLast parentOf lastOf lastPiece ifName fileName afterDot extensionOf extension afterStars afterStar tokenAt tokens eat after afterDirs matchTokens globOf joint pushOf stepBy stepOf walkOf normalizeWith matchesAt partAt keyPart sameList leftOf isSome samePath under leftPieces stripPrefix normal stringRule recordPath leadRule afterConfigDir twoStars patternText patternRule covers prefixOf sameText someOf eachOf findFrom findLastFrom withoutSlashes inConfigDir substituted adjusted builtValue allowed outside ends implied matched included excluded namedFile isEmptyList noReferences solutionStyle mapped row rows items keyRows mapping-in-Listing decimal ifNamed flagRow textRow flags texts equalKey prefixLen longer bestKey filledAt filled fromBest fromEqual fromPaths aliases fromBaseUrl orIfNone longerText rootAbove inRoots fromRoot rootTries placed placedValue ownBase parse said
 cases = refl

@@ -5,7 +5,7 @@ use mathlib.Core.Bool.{Bool, true, false, not, _&&_, false≢true}
 use mathlib.Core.Option.{Option, some, none}
 use Rattle.text.specs.Bytes.{Text}
 use Rattle.text.specs.Text.{someOf}
-use Rattle.path.specs.Path.{extension}
+use Rattle.ends.specs.Ends.{extension}
 use Rattle.tsconfig.specs.Config.{Field, files, include, exclude}
 use Rattle.tsconfig.specs.Claims.{Site, allowJs, solutionStyle, noReferences, isEmptyList, claims, namedFile, included, excluded, outside}
 

@@ -3,7 +3,7 @@ use mathlib.Core.Path.{_≡_, refl, sym}
 use mathlib.Core.List.{List, [], _∷_, _++_, append-nil}
 use mathlib.Core.Bool.{false}
 use Rattle.text.specs.Bytes.{Text, dot}
-use Rattle.path.specs.Path.{starts, insideNodeModules}
+use Rattle.components.specs.Components.{starts, insideNodeModules}
 use Rattle.tsconfig.specs.Config.{baseUrl}
 use Rattle.tsconfig.specs.Build.{Settings}
 use Rattle.tsconfig.specs.Mapping.{aliases, fromBaseUrl, orIfNone, candidates, tries, ifAny, afterCandidates}

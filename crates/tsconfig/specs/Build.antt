@@ -5,11 +5,13 @@ use Prim.Native.Nat.{ℕ}
 use lib.Dec.{eqb}
 use lib.ListN.{drop}
 use Rattle.tsconfig.specs.Config.{Field, files, include, exclude, baseUrl, paths, rootDirs, outDir, declarationDir, flag, text, Config, mapped}
-use Rattle.text.specs.Bytes.{Text, slash, configDir}
+use Rattle.text.specs.Bytes.{Text, slash}
+use Rattle.names.specs.Names.{configDir}
 use Rattle.book.specs.Record.{Key}
 use Rattle.tsconfig.specs.Parsed.{Value}
 use Rattle.text.specs.Text.{prefixOf}
-use Rattle.path.specs.Path.{parentOf, pushOf, normalizeWith}
+use Rattle.ends.specs.Ends.{parentOf}
+use Rattle.join.specs.Join.{pushOf, normalizeWith}
 
 -- a config with its values and its base as texts
 abbrev pub Settings : Type 0

@@ -6,8 +6,10 @@ use Prim.Native.Nat.{ℕ}
 use lib.Dec.{eqb}
 use Rattle.tsconfig.specs.Config.{Field, files, include, exclude, flag}
 use Rattle.text.specs.Bytes.{Text, bytes, slash, dot, star, question}
-use Rattle.text.specs.Text.{sameText, someOf, isTsExtension, isJsExtension}
-use Rattle.path.specs.Path.{parentOf, samePath, under, lastPiece, extension, isSome}
+use Rattle.text.specs.Text.{sameText, someOf}
+use Rattle.names.specs.Names.{isTsExtension, isJsExtension}
+use Rattle.ends.specs.Ends.{parentOf, lastPiece, extension}
+use Rattle.path.specs.Path.{samePath, under, isSome}
 use Rattle.glob.specs.Glob.{globOf}
 use Rattle.tsconfig.specs.Build.{Settings}
 

@@ -12,7 +12,9 @@ use Rattle.text.specs.Text.{sameText, starOf}
 use Rattle.text.specs.declared.Found.{Found}
 use Rattle.text.specs.declared.Found.the-variants.{At, Nothing}
 use Rattle.keys.specs.Keys.{keyPart, isMatch}
-use Rattle.path.specs.Path.{starts, samePath, under, stripPrefix, insideNodeModules, normalizeWith}
+use Rattle.components.specs.Components.{starts, insideNodeModules}
+use Rattle.path.specs.Path.{samePath, under, stripPrefix}
+use Rattle.join.specs.Join.{normalizeWith}
 use Rattle.tsconfig.specs.Build.{Settings}
 
 -- "An equal key wins, empty or not": with or without targets

@@ -2,9 +2,11 @@
 use mathlib.Core.List.{List, [], map}
 use mathlib.Core.Bool.{Bool, cond}
 use mathlib.Core.Option.{Option, some, none, Option·map}
-use Rattle.text.specs.Bytes.{Text, configDir}
+use Rattle.text.specs.Bytes.{Text}
+use Rattle.names.specs.Names.{configDir}
 use Rattle.text.specs.Text.{prefixOf}
-use Rattle.path.specs.Path.{parentOf, normalizeWith}
+use Rattle.ends.specs.Ends.{parentOf}
+use Rattle.join.specs.Join.{normalizeWith}
 use Rattle.book.specs.declared.Cmd.{Cmd}
 use Rattle.book.specs.Command as command
 use Rattle.book.specs.Record.{Key, strings, single, listed, mapping, optionOf, flagOf, recordPathOf}

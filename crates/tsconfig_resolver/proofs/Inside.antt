@@ -14,7 +14,8 @@ use Rattle.tsconfig_resolver.specs.Line.{Configs, Entry, empty, bare, mi
 use Rattle.text.specs.Bytes.{Text, slash, dot}
 use Rattle.text.specs.Text.{sameText}
 use Rattle.tsconfig.specs.Parsed.{Parsed}
-use Rattle.path.specs.Path.{parentOf, normalizeWith}
+use Rattle.ends.specs.Ends.{parentOf}
+use Rattle.join.specs.Join.{normalizeWith}
 use Rattle.book.specs.Find.{find, configPath, locate}
 use Rattle.tsconfig_resolver.specs.Find.{reached, entry, meant, recordAt, pathAt, pathsOf, seen}
 

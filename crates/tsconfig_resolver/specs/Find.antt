@@ -6,7 +6,8 @@ use mathlib.Core.Option.{Option, some, none, Option·map}
 use lib.Dec.{eqb}
 use lib.ListN.{length, getD}
 use Rattle.text.specs.Bytes.{Text, slash, dot}
-use Rattle.path.specs.Path.{parentOf, normalizeWith}
+use Rattle.ends.specs.Ends.{parentOf}
+use Rattle.join.specs.Join.{normalizeWith}
 use Rattle.book.specs.Find.{locate}
 use Rattle.tsconfig.specs.Config.{Field, Config}
 use Rattle.tsconfig.specs.Parsed.{Value, Parsed}

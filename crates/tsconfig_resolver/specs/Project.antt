@@ -9,8 +9,11 @@ use Rattle.book.specs.Answer.{Answer, refused, given, _>>=_}
 use Rattle.tsconfig.specs.Config.{Field, Config}
 use Rattle.tsconfig_resolver.specs.Load.{Loaded, State, loadAsked}
 use Rattle.tsconfig_resolver.specs.References.{refer}
-use Rattle.text.specs.Bytes.{Text, tsconfigJson}
-use Rattle.path.specs.Path.{parentOf, pushOf, components, insideNodeModules}
+use Rattle.text.specs.Bytes.{Text}
+use Rattle.names.specs.Names.{tsconfigJson}
+use Rattle.ends.specs.Ends.{parentOf}
+use Rattle.join.specs.Join.{pushOf}
+use Rattle.components.specs.Components.{components, insideNodeModules}
 use Rattle.tsconfig.specs.Config.{mapped}
 use Rattle.tsconfig.specs.Parsed.{Parsed}
 use Rattle.tsconfig.specs.Build.{Settings, built}

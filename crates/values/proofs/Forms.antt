@@ -9,13 +9,15 @@ use lib.ListN.{length, take, drop, getD, length-drop, drop-of-length-le}
 use lib.Seq.{drop-cons}
 use lib.Dec.{eqb}
 use borrow.Author.Tests.{eq-eqb, ne-eqb}
-use Rattle.text.specs.Bytes.{Text, slash, configDir}
+use Rattle.text.specs.Bytes.{Text, slash}
+use Rattle.names.specs.Names.{configDir}
 use Rattle.text.specs.Text.{prefixOf}
-use Rattle.text.specs.Emit.{Room, Emits}
-use Rattle.path.specs.Path.{starts, joinOf, normalizeWith}
-use Rattle.path.specs.Places.{Holds}
-use Rattle.path.proofs.Pieces.{by-test}
-use Rattle.path.proofs.Buffer.{emits-holds, join-size}
+use Rattle.emit.specs.Emit.{Room, Emits, Holds}
+use Rattle.components.specs.Components.{starts}
+use Rattle.join.specs.Join.{joinOf, normalizeWith}
+use Rattle.text.proofs.Picks.{by-test}
+use Rattle.emit.proofs.Emits.{emits-holds}
+use Rattle.join.proofs.Buffer.{join-size}
 use Rattle.tsconfig.specs.Parsed.{placed}
 use Rattle.tsconfig.specs.Build.{withoutSlashes, inConfigDir, substituted, adjusted}
 use Rattle.values.proofs.Lengths.{without-slashes-length, placed-length}

@@ -6,12 +6,14 @@ use Prim.Native.Nat.{ℕ, suc, _+_, _-_, _≤_, _<_}
 use native.Mathlib.Omega.{arith}
 use lib.ListN.{length, drop, length-append, length-drop, length-map}
 use lib.Dec.{eqb}
-use Rattle.text.specs.Bytes.{Text, slash, configDir}
+use Rattle.text.specs.Bytes.{Text, slash}
+use Rattle.names.specs.Names.{configDir}
 use Rattle.text.specs.Text.{prefixOf}
-use Rattle.path.specs.Path.{onFirst, split, joint, pushOf, stepOf, walkOf, normalizeWith}
-use Rattle.path.proofs.Pieces.{by-test}
-use Rattle.path.proofs.Walk.{step-length}
-use Rattle.path.proofs.Buffer.{joint-size}
+use Rattle.components.specs.Components.{onFirst, split}
+use Rattle.join.specs.Join.{joint, pushOf, stepOf, walkOf, normalizeWith}
+use Rattle.text.proofs.Picks.{by-test}
+use Rattle.join.proofs.Walk.{step-length}
+use Rattle.join.proofs.Buffer.{joint-size}
 use Rattle.book.specs.declared.Cmd.{Cmd}
 use Rattle.book.specs.Command.{command, key, target, end}
 use Rattle.book.specs.Rules.{textOf}

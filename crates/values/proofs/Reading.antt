@@ -9,9 +9,9 @@ use lib.ListN.{length, take}
 use lib.Dec.{leb}
 use borrow.Author.Tests.{leb-true}
 use Rattle.text.specs.Bytes.{Text}
-use Rattle.path.specs.Path.{parentOf}
-use Rattle.path.proofs.Pieces.{by-test}
-use Rattle.path.proofs.Parents.{parent-le}
+use Rattle.ends.specs.Ends.{parentOf}
+use Rattle.text.proofs.Picks.{by-test}
+use Rattle.ends.proofs.Parents.{parent-le}
 use Rattle.text.specs.Text.{eachOf}
 use Rattle.strings.specs.Strings.{stringRule, plainByte}
 use Rattle.book.specs.declared.Cmd.{Cmd}
@@ -20,7 +20,7 @@ use Rattle.book.specs.Rules.{textOf, ownRule, goodString}
 use Rattle.book.specs.Record.{is, only, firstOf, single, recordPathOf}
 use Rattle.book.specs.Index.{recordAt}
 use Rattle.book.specs.Sound.{All, cons, Good}
-use Rattle.path.specs.Places.{Holds}
+use Rattle.emit.specs.Emit.{Holds}
 use Rattle.tsconfig.specs.Parsed.{placed, ownBase}
 use Rattle.tsconfig.specs.Build.{substituted}
 use Rattle.records.specs.declared.Item.{Item}

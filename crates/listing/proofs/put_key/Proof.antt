@@ -1,4 +1,4 @@
-use Rattle.text.proofs.Emits.{emits-both, room-first, room-rest}
+use Rattle.emit.proofs.Emits.{emits-both, room-first, room-rest}
 use Rattle.listing.proofs.Fields.{room-as, emits-as, key-as}
 use borrow.Author.Needs.{needs}
 use Rattle.listing.proofs.put_key.Statement.{statement}

@@ -1,4 +1,4 @@
-use Rattle.text.proofs.Emits.{emits-both, room-first, room-rest}
+use Rattle.emit.proofs.Emits.{emits-both, room-first, room-rest}
 use borrow.Author.Needs.{needs}
 use Rattle.listing.proofs.put_line.Statement.{statement}
 use Rattle.listing.proofs.put_line.Tie as tie

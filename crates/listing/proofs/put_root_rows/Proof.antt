@@ -3,7 +3,7 @@ use Prim.Native.Nat.{_-_}
 use lib.ListN.{length}
 use mathlib.Core.List.{map}
 use Rattle.text.specs.Bytes.{bytes}
-use Rattle.text.proofs.Emits.{Owes, owes-all, owes-step, owes-room, owes-end}
+use Rattle.emit.proofs.Emits.{Owes, owes-all, owes-step, owes-room, owes-end}
 use Rattle.book.specs.Command as command
 use Rattle.book.specs.Record.{strings}
 use Rattle.book.specs.Index.{recordAt}

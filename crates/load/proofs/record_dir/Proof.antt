@@ -1,5 +1,5 @@
 use mathlib.Core.Path.{ap, _∙_}
-use Rattle.path.specs.Path.{parentOf}
+use Rattle.ends.specs.Ends.{parentOf}
 use borrow.Author.Needs.{needs}
 use Rattle.load.proofs.record_dir.Statement.{statement}
 use Rattle.load.proofs.record_dir.Tie as tie

@@ -9,7 +9,7 @@ use Rattle.mapping.proofs.put_path.Reads as put-path-reads
 use Rattle.mapping.proofs.put_size.Reads as put-size-reads
 use Rattle.text.proofs.find_star.Reads as find-star-reads
 use Rattle.text.proofs.from.Reads as from-reads
-use Rattle.text.proofs.put_text.Reads as put-text-reads
+use Rattle.emit.proofs.put_text.Reads as put-text-reads
 use Rattle.text.proofs.upto.Reads as upto-reads
 
 find-star-requires : tie.Need-find-star-requires

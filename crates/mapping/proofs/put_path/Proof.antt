@@ -5,7 +5,7 @@ use Rattle.mapping.proofs.put_path.Tie as tie
 use Rattle.mapping.proofs.put_path.Reads as reads
 use Rattle.mapping.proofs.put_path.Lts as lts
 use Rattle.mapping.proofs.put_size.Reads as put-size-reads
-use Rattle.text.proofs.put_text.Reads as put-text-reads
+use Rattle.emit.proofs.put_text.Reads as put-text-reads
 
 put-size-requires : tie.Need-put-size-requires
 put-size-requires c κs = path-size _ _ (c .before .before .before .pre)

@@ -5,7 +5,7 @@ use Rattle.mapping.proofs.put_read.Tie as tie
 use Rattle.mapping.proofs.put_read.Reads as reads
 use Rattle.mapping.proofs.put_read.Lts as lts
 use Rattle.mapping.proofs.put_path.Reads as put-path-reads
-use Rattle.path.proofs.normalize_with.Reads as normalize-with-reads
+use Rattle.join.proofs.normalize_with.Reads as normalize-with-reads
 use Rattle.text.proofs.upto.Reads as upto-reads
 
 slice-aggregate-normalize-with : tie.Need-slice-aggregate-normalize-with

@@ -4,7 +4,7 @@ use Rattle.mapping.proofs.put_size.Statement.{statement}
 use Rattle.mapping.proofs.put_size.Tie as tie
 use Rattle.mapping.proofs.put_size.Reads as reads
 use Rattle.mapping.proofs.put_size.Lts as lts
-use Rattle.text.proofs.put.Reads as put-reads
+use Rattle.emit.proofs.put.Reads as put-reads
 
 cast-low : tie.Need-cast-low
 cast-low c = search needs

@@ -1,4 +1,4 @@
-use Rattle.path.proofs.Components.{starts-none, starts-some}
+use Rattle.components.proofs.Components.{starts-none, starts-some}
 use borrow.Author.Needs.{needs}
 use Rattle.mapping.proofs.starts_dot.Statement.{statement}
 use Rattle.mapping.proofs.starts_dot.Tie as tie

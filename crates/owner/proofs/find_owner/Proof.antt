@@ -17,9 +17,9 @@ use Rattle.owner.proofs.find_owner.Tie as tie
 use Rattle.owner.proofs.find_owner.Reads as reads
 use Rattle.owner.proofs.find_owner.Lts as lts
 use Rattle.owner.proofs.owned_in.Reads as owned-in-reads
-use Rattle.path.proofs.count_components.Reads as count-components-reads
-use Rattle.path.proofs.inside_node_modules.Reads as inside-node-modules-reads
-use Rattle.path.proofs.parent_len.Reads as parent-len-reads
+use Rattle.components.proofs.count_components.Reads as count-components-reads
+use Rattle.components.proofs.inside_node_modules.Reads as inside-node-modules-reads
+use Rattle.ends.proofs.parent_len.Reads as parent-len-reads
 use Rattle.text.proofs.upto.Reads as upto-reads
 
 abbrev Inv-loop : tie.InvT-loop

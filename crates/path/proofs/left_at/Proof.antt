@@ -2,9 +2,10 @@ use Prim.Native.Nat.{_+_, _-_}
 use mathlib.Core.Path.{_≡_, _∙_}
 use lib.ListN.{length, drop}
 use borrow.Author.Tests.{not-true, not-false}
-use Rattle.path.specs.Path.{split, names}
+use Rattle.components.specs.Components.{split, names}
 use Rattle.path.specs.Places.{leftAt}
-use Rattle.path.proofs.Components.{next-is, left-done, left-short, left-other, left-on}
+use Rattle.components.proofs.Components.{next-is}
+use Rattle.path.proofs.Under.{left-done, left-short, left-other, left-on}
 use native.Mathlib.Omega.{arith}
 use borrow.Author.Needs.{needs}
 use Rattle.path.proofs.left_at.Statement.{statement}

@@ -1,5 +1,5 @@
 use mathlib.Core.Path.{_∙_}
-use Rattle.path.proofs.Components.{same-lead}
+use Rattle.path.proofs.Under.{same-lead}
 use borrow.Author.Needs.{needs}
 use Rattle.path.proofs.same_lead.Statement.{statement}
 use Rattle.path.proofs.same_lead.Tie as tie

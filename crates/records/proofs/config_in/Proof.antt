@@ -7,7 +7,7 @@ use Rattle.records.proofs.config_in.Statement.{statement}
 use Rattle.records.proofs.config_in.Tie as tie
 use Rattle.records.proofs.config_in.Reads as reads
 use Rattle.records.proofs.config_in.Lts as lts
-use Rattle.path.proofs.wants_slash.Reads as wants-slash-reads
+use Rattle.join.proofs.wants_slash.Reads as wants-slash-reads
 use Rattle.records.proofs.find_joined.Reads as find-joined-reads
 
 wants-slash-requires : tie.Need-wants-slash-requires

@@ -1,6 +1,6 @@
 use borrow.Author.Tests.{not-true, not-false}
 use mathlib.Core.List.{_++_}
-use Rattle.path.specs.Places.{slashIf}
+use Rattle.join.specs.Join.{slashIf}
 use Rattle.records.proofs.Paths.{joined-short, joined-other, joined-same}
 use borrow.Author.Needs.{needs}
 use Rattle.records.proofs.is_joined.Statement.{statement}

@@ -1,7 +1,7 @@
 use Prim.Native.Nat.{_-_, _≤_}
 use mathlib.Core.Path.{_≡_}
 use mathlib.Core.List.{[], _++_}
-use Rattle.path.specs.Places.{slashIf}
+use Rattle.join.specs.Join.{slashIf}
 use Rattle.text.specs.Text.{prefixOf, someOf}
 use Rattle.records.specs.Items.{pathTable}
 use Rattle.records.proofs.Paths.{rest, some-start, some-here, some-on, some-none}

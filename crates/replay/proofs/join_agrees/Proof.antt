@@ -1,14 +1,14 @@
 use Prim.Native.Nat.{ℕ, suc, _+_, _-_, _≤_, _<_}
 use mathlib.Core.Path.{_≡_, refl, sym, ap, _∙_}
 use lib.ListN.{length, take, drop}
-use Rattle.path.proofs.Buffer.{join-size}
+use Rattle.join.proofs.Buffer.{join-size}
 use native.Mathlib.Omega.{arith}
 use borrow.Author.Needs.{needs}
 use Rattle.replay.proofs.join_agrees.Statement.{statement}
 use Rattle.replay.proofs.join_agrees.Tie as tie
 use Rattle.replay.proofs.join_agrees.Reads as reads
 use Rattle.replay.proofs.join_agrees.Lts as lts
-use Rattle.path.proofs.join.Reads as join-reads
+use Rattle.join.proofs.join.Reads as join-reads
 use Rattle.text.proofs.same_text.Reads as same-text-reads
 use Rattle.text.proofs.upto.Reads as upto-reads
 

@@ -2,7 +2,7 @@ use Prim.Native.Nat.{ℕ, suc, _+_, _-_, _≤_, _<_}
 use mathlib.Core.Path.{_≡_, refl, sym, ap, _∙_}
 use lib.ListN.{length, take, drop}
 use borrow.Author.Tests.{not-true, not-false}
-use Rattle.path.proofs.Names.{normal-not, normal-root}
+use Rattle.path.proofs.Normal.{normal-not, normal-root}
 use Rattle.strings.proofs.Names.{normal-names}
 use native.Mathlib.Omega.{arith}
 use borrow.Author.Needs.{needs}
@@ -10,7 +10,7 @@ use Rattle.strings.proofs.is_normal.Statement.{statement}
 use Rattle.strings.proofs.is_normal.Tie as tie
 use Rattle.strings.proofs.is_normal.Reads as reads
 use Rattle.strings.proofs.is_normal.Lts as lts
-use Rattle.path.proofs.is_absolute.Reads as is-absolute-reads
+use Rattle.components.proofs.is_absolute.Reads as is-absolute-reads
 use Rattle.strings.proofs.has_names.Reads as has-names-reads
 
 is-absolute-requires : tie.Need-is-absolute-requires

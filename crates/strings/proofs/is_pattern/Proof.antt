@@ -10,7 +10,7 @@ use Rattle.strings.proofs.is_pattern.Reads as reads
 use Rattle.strings.proofs.is_pattern.Lts as lts
 use Rattle.strings.proofs.is_pattern_text.Reads as is-pattern-text-reads
 use Rattle.text.proofs.from.Reads as from-reads
-use Rattle.text.proofs.has_config_dir.Reads as has-config-dir-reads
+use Rattle.names.proofs.has_config_dir.Reads as has-config-dir-reads
 
 has-config-dir-requires : tie.Need-has-config-dir-requires
 has-config-dir-requires c κs = search needs

@@ -10,7 +10,7 @@ use Rattle.strings.proofs.obeys_lead.Tie as tie
 use Rattle.strings.proofs.obeys_lead.Reads as reads
 use Rattle.strings.proofs.obeys_lead.Lts as lts
 use Rattle.strings.proofs.is_normal.Reads as is-normal-reads
-use Rattle.path.proofs.is_absolute.Reads as is-absolute-reads
+use Rattle.components.proofs.is_absolute.Reads as is-absolute-reads
 
 is-absolute-requires : tie.Need-is-absolute-requires
 is-absolute-requires c κs = search needs

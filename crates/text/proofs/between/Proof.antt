@@ -15,7 +15,7 @@ slice-aggregate-result : tie.Need-slice-aggregate-result
 slice-aggregate-result c = search needs
 
 returns : tie.Need-returns
-returns c = search (needs, between-none)
+returns c = let a = c .before .before .before .args in between-none (a .s .now) (a .a) (a .e) (c .before .if1 .taken)
 
 from-requires : tie.Need-from-requires
 from-requires c κs = search needs
@@ -27,7 +27,7 @@ upto-requires : tie.Need-upto-requires
 upto-requires c κs = search needs
 
 returns-2 : tie.Need-returns-2
-returns-2 c = cc
+returns-2 c = let a = c .before .before .before .before .args in c .upto .ensures ∙ ap (take (a .e - a .a)) (c .before .from .ensures)
 
 pub between-spec : {M : Type 1} → statement M
 between-spec =

@@ -23,7 +23,10 @@ shared-slice-read-if1 : tie.Need-shared-slice-read-if1 Inv-loop μ-loop
 shared-slice-read-if1 c = search needs
 
 returns : tie.Need-returns Inv-loop μ-loop
-returns c = cc (find-here _ _ _ (c .before .before .loop-test .taken) (c .if1 .taken))
+returns c =
+    let a = c .before .before .before .before .args in
+    let l = c .before .before .before .loop in
+    sym (find-here (a .b) (a .s .now) (l .i) (c .before .before .loop-test .taken) (c .if1 .taken)) ∙ l .inv .1
 
 add-i : tie.Need-add-i Inv-loop μ-loop
 add-i c = search needs
@@ -32,10 +35,16 @@ loop-less : tie.Need-loop-less Inv-loop μ-loop
 loop-less c = search needs
 
 loop-again : tie.Need-loop-again Inv-loop μ-loop
-loop-again c = (search needs, cc (find-on _ _ _ (c .before .before .loop-test .taken) (c .if1 .left)))
+loop-again c =
+    let a = c .before .before .before .before .args in
+    let l = c .before .before .before .loop in
+    (search needs, sym (find-on (a .b) (a .s .now) (l .i) (c .before .before .loop-test .taken) (c .if1 .left)) ∙ l .inv .1)
 
 returns-2 : tie.Need-returns-2 Inv-loop μ-loop
-returns-2 c = cc (find-end _ _ _ (c .loop-test .left))
+returns-2 c =
+    let a = c .before .before .args in
+    let l = c .before .loop in
+    sym (find-end (a .b) (a .s .now) (l .i) (c .loop-test .left)) ∙ l .inv .1
 
 pub find-byte-spec : {M : Type 1} → statement M
 find-byte-spec =

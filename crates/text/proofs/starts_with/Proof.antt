@@ -31,7 +31,9 @@ shared-slice-read-if2-2 c = search needs
 returns-2 : tie.Need-returns-2 Inv-loop μ-loop
 returns-2 c =
     let a = c .before .before .before .before .before .before .args in
-    cc (prefix-other (a .p .now) (a .s .now) (c .before .before .before .before .loop .i) (omega arith) (omega arith) (c .if2 .taken))
+    let l = c .before .before .before .before .loop in
+    let h : l .i < length (a .s .now) = omega (arith, c .before .before .before .loop-test .taken, c .before .before .before .before .before .if1 .left) in
+    sym (prefix-other (a .p .now) (a .s .now) (l .i) (c .before .before .before .loop-test .taken) h (c .if2 .taken)) ∙ l .inv .1
 
 add-i : tie.Need-add-i Inv-loop μ-loop
 add-i c = search needs
@@ -42,10 +44,15 @@ loop-less c = search needs
 loop-again : tie.Need-loop-again Inv-loop μ-loop
 loop-again c =
     let a = c .before .before .before .before .before .before .args in
-    (search needs, cc (prefix-same (a .p .now) (a .s .now) (c .before .before .before .before .loop .i) (omega arith) (omega arith) (c .if2 .left)))
+    let l = c .before .before .before .before .loop in
+    let h : l .i < length (a .s .now) = omega (arith, c .before .before .before .loop-test .taken, c .before .before .before .before .before .if1 .left) in
+    (search needs, sym (prefix-same (a .p .now) (a .s .now) (l .i) (c .before .before .before .loop-test .taken) h (c .if2 .left)) ∙ l .inv .1)
 
 returns-3 : tie.Need-returns-3 Inv-loop μ-loop
-returns-3 c = cc (prefix-end _ _ _ (c .loop-test .left))
+returns-3 c =
+    let a = c .before .before .before .args in
+    let l = c .before .loop in
+    sym (prefix-end (a .p .now) (a .s .now) (l .i) (c .loop-test .left)) ∙ l .inv .1
 
 pub starts-with-spec : {M : Type 1} → statement M
 starts-with-spec =

@@ -1,4 +1,4 @@
-use Rattle.path.specs.Path.{parentOf}
+use Rattle.ends.specs.Ends.{parentOf}
 use mathlib.Core.Path.{ap, _∙_}
 use borrow.Author.Needs.{needs}
 use Rattle.values.proofs.dir_at.Statement.{statement}
