@@ -1,0 +1,39 @@
+//! Books and questions that lean towards the edges of document 01, the same for the same seed. Case number i of a seed
+//! does not depend on the cases before it. Most books are small and accepted; some are damaged or break a rule.
+
+pub mod book;
+mod damage;
+mod graphs;
+mod questions;
+mod random;
+mod records;
+mod words;
+
+pub use book::{Bytes, Command};
+pub use questions::Question;
+pub use random::Random;
+
+use graphs::Shape;
+
+/// A book and what is asked about it.
+#[derive(Clone, Debug)]
+pub struct Case {
+    pub book: Bytes,
+    pub questions: Vec<Question>,
+}
+
+/// The case with this number, of this seed.
+pub fn case(seed: u64, number: u64) -> Case {
+    let mut random = Random::new(seed, number);
+    let shape = Shape::pick(&mut random);
+    let records = graphs::records(&mut random, shape);
+    let questions = questions::about(&mut random, &records);
+    let mixed = random.chance(30);
+    let mut commands: Vec<Command> = Vec::new();
+    for record in &records {
+        commands.extend(record.commands(&mut random, mixed));
+    }
+    let layout = book::Layout::pick(&mut random, records.len());
+    let book = damage::written(&mut random, commands, layout);
+    Case { book, questions }
+}
