@@ -56,7 +56,13 @@ impl Mismatch {
 }
 
 /// The outcome that both give for this question with this much output.
-pub fn hold(asker: &mut Asker, judge: &Result<Outcome, String>, book: &Bytes, question: &Question, room: Room) -> Result<Outcome, Mismatch> {
+pub fn hold(
+    asker: &mut Asker,
+    judge: &Result<Outcome, String>,
+    book: &Bytes,
+    question: &Question,
+    room: Room,
+) -> Result<Outcome, Mismatch> {
     let need = judge.as_ref().map_or(4096, |outcome| outcome.output.len());
     let bytes = room.bytes(need);
     let judge = judge.as_ref().map(|outcome| outcome.within(bytes)).map_err(String::clone);

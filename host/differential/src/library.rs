@@ -2,6 +2,7 @@
 
 use generator::{Bytes, Question};
 use tsconfig_questions::ffi::{self, Numbers};
+use tsconfig_questions::{Book, answer_line, form};
 
 use crate::outcome::Outcome;
 use crate::wrong::Wrong;
@@ -40,7 +41,7 @@ impl Asker {
         let end = MARGIN + room;
         self.buffer.clear();
         self.buffer.extend((0..end + MARGIN).map(pattern));
-        let numbers = match &self.wrong {
+        let numbers = match self.wrong {
             None => ask(book, question, &mut self.buffer[MARGIN..end]),
             Some(wrong) => wrong.ask(book, question, &mut self.buffer[MARGIN..], room, ask),
         };
@@ -52,8 +53,29 @@ impl Asker {
         let answer = MARGIN..MARGIN + written;
         let touched = (0..self.buffer.len()).find(|at| !answer.contains(at) && self.buffer[*at] != pattern(*at));
         if let Some(at) = touched {
-            return Err(format!("The library changed byte {} of an output of {room}, and its answer has {written}.", at as isize - MARGIN as isize));
+            return Err(format!(
+                "The library changed byte {} of an output of {room}, and its answer has {written}.",
+                at as isize - MARGIN as isize
+            ));
         }
         Ok(Outcome { numbers: [number, place, first, second, bytes], output: self.buffer[answer].to_vec() })
     }
+}
+
+/// What the library's safe functions print for a question, where its line can be read back.
+pub fn printed(book: &Bytes, question: &Question) -> Option<Result<Vec<u8>, String>> {
+    if question.fields().iter().any(|field| field.contains(&b'\t')) {
+        return None;
+    }
+    let Bytes { commands, text } = book;
+    let answer = answer_line(Book { commands, text }, &question.line())?;
+    Some(answer.map_err(|error| format!("The safe function ends in an error: {error}.")))
+}
+
+/// The book that is read back from its text form.
+pub fn reread(book: &Bytes) -> Result<Bytes, String> {
+    let Bytes { commands, text } = book;
+    let buf = form::parse(form::print(Book { commands, text })).map_err(|error| error.to_string())?;
+    let again = buf.book();
+    Ok(Bytes { commands: again.commands.to_vec(), text: again.text.to_vec() })
 }

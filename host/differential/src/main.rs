@@ -38,7 +38,8 @@ fn arguments() -> Result<Arguments, String> {
             "--without-tries" => given.letters = "BOC",
             "--wrong" => {
                 let name = words.next().unwrap_or_default();
-                let wrong = Wrong::named(&name).ok_or_else(|| format!("The wrong libraries are {}.", Wrong::NAMES.join(", ")))?;
+                let wrong = Wrong::named(&name)
+                    .ok_or_else(|| format!("The wrong libraries are {}.", Wrong::names().collect::<Vec<_>>().join(", ")))?;
                 given.wrong = Some(wrong);
             }
             _ => given.numbers.push(number(Some(word))?),

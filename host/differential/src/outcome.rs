@@ -30,6 +30,32 @@ impl Outcome {
         if self.output.len() > room { Self::refused(13, self.output.len() as u64) } else { self.clone() }
     }
 
+    /// The lines that a program prints for it.
+    pub fn lines(&self, letter: u8) -> Vec<u8> {
+        let [number, place, first, second, _] = self.numbers;
+        let mut lines = match (number, letter) {
+            (0, b'B') => format!("built {first} {second}\n"),
+            (0, b'O') if first == NOBODY => "owner none\n".to_string(),
+            (0, b'O') => format!("owner {first} {second}\n"),
+            (0, b'C') => format!("candidates {first}\n"),
+            (0, _) => format!("tries {first}\n"),
+            _ => format!("refused {number} {place}\n"),
+        }
+        .into_bytes();
+        if letter == b'B' {
+            lines.extend(&self.output);
+            return lines;
+        }
+        let mut rest = &self.output[..];
+        while let Some((length, after)) = rest.split_first_chunk::<2>() {
+            let (path, after) = after.split_at(usize::from(u16::from_le_bytes(*length)));
+            lines.extend(path);
+            lines.push(b'\n');
+            rest = after;
+        }
+        lines
+    }
+
     fn of(reply: &Reply) -> Self {
         let paths = |paths: &[std::path::PathBuf]| {
             let mut output = vec![];

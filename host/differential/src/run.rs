@@ -4,8 +4,8 @@ use generator::{Case, Question, Random};
 use judge::answer::Book;
 
 use crate::hold::{Mismatch, Room, hold};
-use crate::library::Asker;
-use crate::outcome::judged;
+use crate::library::{self, Asker};
+use crate::outcome::{Outcome, judged};
 use crate::show;
 use crate::shrink::{Found, shrink};
 use crate::tally::Tally;
@@ -44,6 +44,9 @@ impl Run {
 
     fn question(&mut self, number: u64, case: &Case, judge: &Book, question: &Question, rooms: &[Room]) {
         let answer = judged(judge, question);
+        if let Ok(answer) = &answer {
+            self.safe(number, case, question, answer);
+        }
         for room in rooms {
             self.questions += 1;
             match hold(&mut self.asker, &answer, &case.book, question, *room) {
@@ -56,10 +59,37 @@ impl Run {
         }
     }
 
+    fn fault(&mut self, number: u64, sentence: &str) {
+        self.mismatches += 1;
+        println!("Case {number} of seed {}: {sentence}", self.seed);
+    }
+
+    /// The safe functions answer as the judge does, in lines.
+    fn safe(&mut self, number: u64, case: &Case, question: &Question, answer: &Outcome) {
+        let lines = Ok(answer.lines(question.letter()));
+        if let Some(printed) = library::printed(&case.book, question)
+            && printed != lines
+        {
+            self.fault(number, &format!("{}: the safe function answers {printed:?}, the judge {lines:?}.", question.line().escape_ascii()));
+        }
+    }
+
+    /// The text form of the book gives its records back; that of a refused one gives its bytes back.
+    fn form(&mut self, number: u64, case: &Case, judge: &Book) {
+        let fault = match (library::reread(&case.book), judge.records()) {
+            (Ok(again), Ok(records)) if Book::new(&again.commands, &again.text).records() == Ok(records) => return,
+            (Ok(again), Err(_)) if again == case.book => return,
+            (Ok(_), _) => "another book is read back from its text form.".to_string(),
+            (Err(error), _) => format!("its text form is not read: {error}."),
+        };
+        self.fault(number, &fault);
+    }
+
     fn case(&mut self, number: u64) {
         let case = generator::case(self.seed, number);
         let kept = case.book.clone();
         let judge = Book::new(&case.book.commands, &case.book.text);
+        self.form(number, &case, &judge);
         let mut random = Random::new(!self.seed, number);
         for question in &case.questions {
             if self.letters.contains(question.letter() as char) {
@@ -68,8 +98,7 @@ impl Run {
             }
         }
         if kept != case.book {
-            println!("The library altered the book of case {number} of seed {}.", self.seed);
-            self.mismatches += 1;
+            self.fault(number, "the library altered the book.");
         }
     }
 

@@ -87,7 +87,8 @@ impl Shrinker<'_> {
     /// Leaves out bytes, for a book that is not made of whole commands.
     fn bytes(&mut self) {
         let text = self.found.book.text.clone();
-        let commands = thin(self.found.book.commands.clone(), &mut |fewer| self.takes_book(Bytes { commands: fewer.to_vec(), text: text.clone() }));
+        let commands =
+            thin(self.found.book.commands.clone(), &mut |fewer| self.takes_book(Bytes { commands: fewer.to_vec(), text: text.clone() }));
         thin(text, &mut |fewer| self.takes_book(Bytes { commands: commands.clone(), text: fewer.to_vec() }));
     }
 
@@ -152,7 +153,7 @@ mod tests {
 
     #[test]
     fn every_wrong_library_is_found_out_by_a_small_book() {
-        for name in Wrong::NAMES {
+        for name in Wrong::names() {
             let found = smallest(name);
             let (commands, _) = found.book.read();
             assert!(commands.len() <= 9, "{name}: {commands:?}");

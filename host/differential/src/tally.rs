@@ -7,13 +7,32 @@ use generator::Question;
 use crate::outcome::Outcome;
 
 const NAMES: [&str; 20] = [
-    "refused 1", "refused 2", "refused 3", "refused 4", "refused 5", "refused 6", "refused 7", "refused 8", "refused 9", "refused 10", "refused 11", "refused 12", "refused 13",
-    "built, no merges", "built, merges", "owner none", "owner, itself the solution", "owner, a reference the solution", "no paths", "paths",
+    "refused 1",
+    "refused 2",
+    "refused 3",
+    "refused 4",
+    "refused 5",
+    "refused 6",
+    "refused 7",
+    "refused 8",
+    "refused 9",
+    "refused 10",
+    "refused 11",
+    "refused 12",
+    "refused 13",
+    "built, no merges",
+    "built, merges",
+    "owner none",
+    "owner, itself the solution",
+    "owner, a reference the solution",
+    "no paths",
+    "paths",
 ];
 
 /// Which rows can come up, as columns B, O, C, T.
 const POSSIBLE: [&str; 20] = [
-    "BOCT", "BOCT", "BOCT", "BOCT", "BOCT", "BOCT", "BOCT", "BOCT", "BOCT", "BOCT", "BOCT", "BOCT", "BCT", "B", "B", "O", "O", "O", "CT", "CT",
+    "BOCT", "BOCT", "BOCT", "BOCT", "BOCT", "BOCT", "BOCT", "BOCT", "BOCT", "BOCT", "BOCT", "BOCT", "BCT", "B", "B", "O", "O", "O", "CT",
+    "CT",
 ];
 
 const LETTERS: [u8; 4] = *b"BOCT";

@@ -3,15 +3,20 @@
 use generator::{Bytes, Command, Question, book};
 use tsconfig_questions::ffi::Numbers;
 
+#[derive(Clone, Copy, PartialEq, Eq)]
 pub enum Wrong {
     /// Extends entries are merged first to last.
     FirstToLast,
     /// The last parent is merged and the rest are skipped.
     LastParentOnly,
-    /// A key without targets is passed over.
+    /// A key without targets is passed over in the mapping.
     KeysWithTargetsOnly,
-    /// `files` is not looked at.
-    FilesIgnored,
+    /// Extensions are tested before `files`.
+    ExtensionsFirst,
+    /// `files` is compared by text.
+    FilesByText,
+    /// The config that was found is taken for the solution.
+    NoSolution,
     /// One byte more is written than the answer has.
     WritesBehind,
     /// 13 is answered one byte too late, with nothing written.
@@ -20,24 +25,44 @@ pub enum Wrong {
 
 type Ask = fn(&Bytes, &Question, &mut [u8]) -> Numbers;
 
+const ALL: [(&str, Wrong, &str); 8] = [
+    ("first-to-last", Wrong::FirstToLast, "BOCT"),
+    ("last-parent-only", Wrong::LastParentOnly, "BOCT"),
+    ("keys-with-targets-only", Wrong::KeysWithTargetsOnly, "CT"),
+    ("extensions-first", Wrong::ExtensionsFirst, "O"),
+    ("files-by-text", Wrong::FilesByText, "O"),
+    ("no-solution", Wrong::NoSolution, "O"),
+    ("writes-behind", Wrong::WritesBehind, "BCT"),
+    ("late-thirteen", Wrong::LateThirteen, "BCT"),
+];
+
+const EXTENSIONS: [&[u8]; 4] = [b".ts", b".tsx", b".mts", b".cts"];
+
+fn is_normal(string: &[u8]) -> bool {
+    let parts: [&[u8]; 3] = [b"//", b"/./", b"/../"];
+    let ends: [&[u8]; 3] = [b"/", b"/.", b"/.."];
+    !parts.iter().any(|part| string.windows(part.len()).any(|window| window == *part)) && !ends.iter().any(|end| string.ends_with(end))
+}
+
 impl Wrong {
-    pub const NAMES: [&str; 6] = ["first-to-last", "last-parent-only", "keys-with-targets-only", "files-ignored", "writes-behind", "late-thirteen"];
+    pub fn names() -> impl Iterator<Item = &'static str> {
+        ALL.iter().map(|(name, ..)| *name)
+    }
 
     pub fn named(name: &str) -> Option<Self> {
-        Some(match name {
-            "first-to-last" => Self::FirstToLast,
-            "last-parent-only" => Self::LastParentOnly,
-            "keys-with-targets-only" => Self::KeysWithTargetsOnly,
-            "files-ignored" => Self::FilesIgnored,
-            "writes-behind" => Self::WritesBehind,
-            "late-thirteen" => Self::LateThirteen,
-            _ => return None,
-        })
+        ALL.iter().find(|(other, ..)| *other == name).map(|(_, wrong, _)| *wrong)
+    }
+
+    /// Is it wrong in questions of this kind?
+    fn concerns(self, question: &Question) -> bool {
+        let (.., letters) = ALL.iter().find(|(_, wrong, _)| *wrong == self).unwrap();
+        letters.contains(question.letter() as char)
     }
 
     /// Asks wrongly. The output lent is the first `room` bytes of `out`.
-    pub fn ask(&self, book: &Bytes, question: &Question, out: &mut [u8], room: usize, ask: Ask) -> Numbers {
+    pub fn ask(self, book: &Bytes, question: &Question, out: &mut [u8], room: usize, ask: Ask) -> Numbers {
         match self {
+            _ if !self.concerns(question) => ask(book, question, &mut out[..room]),
             Self::WritesBehind => {
                 let numbers = ask(book, question, &mut out[..room]);
                 out[numbers.bytes as usize] ^= u8::from(numbers.number == 0);
@@ -57,7 +82,7 @@ impl Wrong {
     }
 
     /// The commands of a book for which the right library answers as the wrong one would for the book itself.
-    fn altered(&self, commands: Vec<Command>) -> Vec<Command> {
+    fn altered(self, commands: Vec<Command>) -> Vec<Command> {
         let mut records: Vec<Vec<Command>> = vec![];
         for command in commands {
             if command.code == book::BEGIN || records.is_empty() {
@@ -68,7 +93,7 @@ impl Wrong {
         records.into_iter().flat_map(|record| self.altered_record(record)).collect()
     }
 
-    fn altered_record(&self, mut record: Vec<Command>) -> Vec<Command> {
+    fn altered_record(self, mut record: Vec<Command>) -> Vec<Command> {
         let entries: Vec<usize> = (0..record.len()).filter(|at| record[*at].code == book::EXTENDS).collect();
         match self {
             Self::FirstToLast => {
@@ -92,7 +117,14 @@ impl Wrong {
                     command.code != book::KEY || codes.get(at + 1) == Some(&book::TARGET)
                 });
             }
-            Self::FilesIgnored => record.retain(|command| command.code != book::FILE),
+            Self::ExtensionsFirst => record.retain(|command| {
+                let string = command.string.as_deref().unwrap_or_default();
+                command.code != book::FILE || EXTENSIONS.iter().any(|extension| string.ends_with(extension))
+            }),
+            Self::FilesByText => {
+                record.retain(|command| command.code != book::FILE || is_normal(command.string.as_deref().unwrap_or_default()))
+            }
+            Self::NoSolution => record.retain(|command| command.code != book::REFERENCE),
             Self::WritesBehind | Self::LateThirteen => {}
         }
         record

@@ -109,8 +109,36 @@ fn clashing(random: &mut Random, commands: &[Command]) -> Vec<Command> {
 
 /// Strings that some rule refuses and another accepts.
 const STRINGS: &[&[u8]] = &[
-    b"a\\b", b"a\x7f", b"\x1f", b"\xc3\xa9", b"/a/", b"//", b"/a/../b", b"/a*", b"/[", b"***", b"a**", b"{a}", b"!x", b"/", b"rel", b"/a?", b"/a#", b"", b"\n", b"${configDir}**",
-    b"${configDir}{", b"/a/.", b"/.", b"/a//b", b"**a", b"**/***", b"a]", b"/~/ ", b"\x80", b"\0",
+    b"a\\b",
+    b"a\x7f",
+    b"\x1f",
+    b"\xc3\xa9",
+    b"/a/",
+    b"//",
+    b"/a/../b",
+    b"/a*",
+    b"/[",
+    b"***",
+    b"a**",
+    b"{a}",
+    b"!x",
+    b"/",
+    b"rel",
+    b"/a?",
+    b"/a#",
+    b"",
+    b"\n",
+    b"${configDir}**",
+    b"${configDir}{",
+    b"/a/.",
+    b"/.",
+    b"/a//b",
+    b"**a",
+    b"**/***",
+    b"a]",
+    b"/~/ ",
+    b"\x80",
+    b"\0",
 ];
 
 fn break_string(random: &mut Random, commands: &mut [Command]) {
@@ -160,7 +188,9 @@ mod tests {
             let mut random = Random::new(seed, 0);
             let mut commands = vec![Command::with(BEGIN, "/p"), Command::with(EXTENDS, "./x"), Command::lone(END)];
             add_one_too_many(&mut random, &mut commands);
-            for (item, most) in [(EXTENDS, 8), (REFERENCE, 16), (FILE, 64), (INCLUDED, 64), (EXCLUDED, 64), (ROOT_DIR, 8), (KEY, 32), (TARGET, 8)] {
+            for (item, most) in
+                [(EXTENDS, 8), (REFERENCE, 16), (FILE, 64), (INCLUDED, 64), (EXCLUDED, 64), (ROOT_DIR, 8), (KEY, 32), (TARGET, 8)]
+            {
                 let count = commands.iter().filter(|command| command.code == item).count();
                 assert!(count <= 1 || count == most || count == most + 1, "{item} {count}");
             }

@@ -131,7 +131,14 @@ impl<'a> Hints<'a> {
         let folder = match random.below(10) {
             0 => random.word(FOLDERS),
             1 => random.word(ASKED_FOLDERS).trim_end_matches('/').to_string(),
-            2..=4 => return format!("{}/{}{}", self.project_folder(random), random.pick(&["src/a", "a", "k", "b/a", "src/k"]), random.pick(&[".ts", ".ts", ".tsx", ".js"])),
+            2..=4 => {
+                return format!(
+                    "{}/{}{}",
+                    self.project_folder(random),
+                    random.pick(&["src/a", "a", "k", "b/a", "src/k"]),
+                    random.pick(&[".ts", ".ts", ".tsx", ".js"])
+                );
+            }
             _ => self.project_folder(random).to_string() + &random.word(&["", "", "", "/src", "/a", "/b", "/src/a", "/node_modules/a"]),
         };
         let name = random.word(STEMS) + &random.word(EXTENSIONS);
@@ -230,7 +237,11 @@ pub fn about(random: &mut Random, records: &[Record]) -> Vec<Question> {
         questions.push(Question::Candidates { path: hints.config(random), specifier: hints.specifier(random) });
     }
     for _ in 0..random.between(2, 6) {
-        questions.push(Question::Tries { path: hints.config(random), directory: hints.directory(random), specifier: hints.specifier(random) });
+        questions.push(Question::Tries {
+            path: hints.config(random),
+            directory: hints.directory(random),
+            specifier: hints.specifier(random),
+        });
     }
     questions
 }

@@ -190,7 +190,9 @@ impl Record {
         let each = |code: u8, texts: &[String]| texts.iter().map(|text| vec![Command::with(code, text.as_bytes())]).collect();
         streams.push(each(book::EXTENDS, &self.extends));
         streams.push(each(book::REFERENCE, &self.references));
-        for (code, text) in [(book::BASE_URL, &self.base_url), (book::OUT_DIR, &self.out_dir), (book::DECLARATION_DIR, &self.declaration_dir)] {
+        for (code, text) in
+            [(book::BASE_URL, &self.base_url), (book::OUT_DIR, &self.out_dir), (book::DECLARATION_DIR, &self.declaration_dir)]
+        {
             streams.extend(text.as_ref().map(|text| vec![vec![Command::with(code, text.as_bytes())]]));
         }
         streams.extend(self.flags.iter().map(|(id, value)| vec![vec![Command::flag(*id, *value)]]));

@@ -1,0 +1,9 @@
+#!/bin/sh
+# run.sh SEED CASES [--first NUMBER] [--without-tries] [--wrong NAME]: builds the runner and holds the library against the judge.
+set -e
+cd "$(dirname "$0")"
+if [ -z "$TSCONFIG_QUESTIONS_LIB" ] && [ ! -f ../../target/staticlib/libquestions.a ]; then
+    (cd ../.. && rt staticlib questions)
+fi
+cargo build --release --offline --quiet
+exec "${CARGO_TARGET_DIR:-target}/release/differential" "$@"
