@@ -1,0 +1,9 @@
+#!/bin/sh
+# run.sh SEED ROUNDS [--without-tries]: lends bytes that nobody intended to the C functions.
+set -e
+cd "$(dirname "$0")"
+if [ -z "$TSCONFIG_QUESTIONS_LIB" ] && [ ! -f ../../target/staticlib/libquestions.a ]; then
+    (cd ../.. && rt staticlib questions)
+fi
+cargo build --release --offline --quiet
+exec $UNDER "${CARGO_TARGET_DIR:-target}/release/bytes" "$@"
