@@ -18,7 +18,7 @@ pub enum Room {
 }
 
 impl Room {
-    fn bytes(self, need: usize) -> usize {
+    pub fn bytes(self, need: usize) -> usize {
         match self {
             Self::More(more) => need + more,
             Self::Fewer(fewer) => need.saturating_sub(fewer),

@@ -4,6 +4,7 @@ mod hold;
 mod library;
 mod outcome;
 mod run;
+mod sample;
 mod show;
 mod shrink;
 mod tally;
@@ -13,55 +14,71 @@ use std::process::ExitCode;
 
 use library::Asker;
 use run::Run;
+use sample::Sample;
 use wrong::Wrong;
 
-const USAGE: &str = "differential SEED CASES [--first NUMBER] [--without-tries] [--wrong NAME]";
+const USAGE: &str = "differential SEED CASES [--first NUMBER] [--without-tries] [--wrong NAME]
+differential sample SEED BOOKS FILE [--without-tries]";
 
 struct Arguments {
-    numbers: Vec<u64>,
+    plain: Vec<String>,
     first: u64,
     letters: &'static str,
     wrong: Option<Wrong>,
 }
 
-fn number(text: Option<String>) -> Result<u64, String> {
-    let text = text.ok_or("A number is missing.")?;
-    text.parse().map_err(|_| format!("{text} is not a number."))
+fn number(text: &str) -> Result<u64, String> {
+    text.parse().map_err(|_| format!("\"{text}\" is not a number."))
 }
 
 fn arguments() -> Result<Arguments, String> {
-    let mut given = Arguments { numbers: vec![], first: 0, letters: "BOCT", wrong: None };
+    let mut given = Arguments { plain: vec![], first: 0, letters: "BOCT", wrong: None };
     let mut words = std::env::args().skip(1);
     while let Some(word) = words.next() {
         match word.as_str() {
-            "--first" => given.first = number(words.next())?,
+            "--first" => given.first = number(&words.next().unwrap_or_default())?,
             "--without-tries" => given.letters = "BOC",
             "--wrong" => {
-                let name = words.next().unwrap_or_default();
-                let wrong = Wrong::named(&name)
-                    .ok_or_else(|| format!("The wrong libraries are {}.", Wrong::names().collect::<Vec<_>>().join(", ")))?;
-                given.wrong = Some(wrong);
+                let wrong = Wrong::named(&words.next().unwrap_or_default());
+                let names: Vec<&str> = Wrong::names().collect();
+                given.wrong = Some(wrong.ok_or_else(|| format!("The wrong libraries are {}.", names.join(", ")))?);
             }
-            _ => given.numbers.push(number(Some(word))?),
+            _ => given.plain.push(word),
         }
     }
     Ok(given)
 }
 
+fn write_sample(seed: u64, books: u64, file: &str, letters: &str) -> Result<(), String> {
+    let sample = Sample::make(seed, books, letters)?;
+    std::fs::write(file, &sample.bytes).map_err(|error| format!("{file} cannot be written: {error}."))?;
+    println!("{}\n{} books, {} questions, {} bytes", sample.tally, sample.books, sample.questions, sample.bytes.len());
+    Ok(())
+}
+
+/// True where nothing is at fault.
+fn run() -> Result<bool, String> {
+    let given = arguments()?;
+    let plain: Vec<&str> = given.plain.iter().map(String::as_str).collect();
+    match plain[..] {
+        ["sample", seed, books, file] => write_sample(number(seed)?, number(books)?, file, given.letters).map(|()| true),
+        [seed, cases] => {
+            let asker = Asker::new(given.wrong);
+            Ok(Run::new(number(seed)?, given.first, number(cases)?, given.letters.to_string(), asker).run())
+        }
+        _ => Err(USAGE.to_string()),
+    }
+}
+
 fn main() -> ExitCode {
     // A panic of the crate is told as a mismatch.
     std::panic::set_hook(Box::new(|_| {}));
-    let given = match arguments() {
-        Ok(given) if given.numbers.len() == 2 => given,
-        Ok(_) => {
-            eprintln!("{USAGE}");
-            return ExitCode::from(2);
-        }
+    match run() {
+        Ok(true) => ExitCode::SUCCESS,
+        Ok(false) => ExitCode::FAILURE,
         Err(sentence) => {
-            eprintln!("{sentence}\n{USAGE}");
-            return ExitCode::from(2);
+            eprintln!("{sentence}");
+            ExitCode::from(2)
         }
-    };
-    let run = Run::new(given.numbers[0], given.first, given.numbers[1], given.letters.to_string(), Asker::new(given.wrong));
-    if run.run() { ExitCode::SUCCESS } else { ExitCode::FAILURE }
+    }
 }

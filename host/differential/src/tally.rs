@@ -62,6 +62,13 @@ impl Tally {
         self.counts[row(letter, outcome.numbers)][column] += 1;
     }
 
+    /// Has this answer not come up for this kind of question?
+    pub fn is_new(&self, question: &Question, outcome: &Outcome) -> bool {
+        let letter = question.letter();
+        let column = LETTERS.iter().position(|other| *other == letter).unwrap();
+        self.counts[row(letter, outcome.numbers)][column] == 0
+    }
+
     /// What can come up for one of these kinds of questions and never did.
     pub fn missing(&self, letters: &str) -> Vec<String> {
         let mut missing = vec![];
