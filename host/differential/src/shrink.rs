@@ -84,6 +84,26 @@ impl Shrinker<'_> {
         }
     }
 
+    /// Leaves out one record, with a name in another that leads past it.
+    fn links(&mut self) -> bool {
+        let all = records(&self.found.book.read().0);
+        let paths: Vec<Vec<u8>> = all.iter().filter_map(|record| record[0].string.clone()).collect();
+        for left_out in 0..all.len() {
+            let mut left = all.clone();
+            left.remove(left_out);
+            let commands = left.concat();
+            let names = (0..commands.len()).filter(|at| matches!(commands[*at].code, book::EXTENDS | book::REFERENCE));
+            for (at, path) in names.flat_map(|at| paths.iter().map(move |path| (at, path))) {
+                let mut next = commands.clone();
+                next[at].string = Some(path.clone());
+                if self.takes_book(written(&next)) {
+                    return true;
+                }
+            }
+        }
+        false
+    }
+
     /// Leaves out bytes, for a book that is not made of whole commands.
     fn bytes(&mut self) {
         let text = self.found.book.text.clone();
@@ -118,6 +138,7 @@ pub fn shrink(asker: &mut Asker, found: Found, mismatch: Mismatch) -> (Found, Mi
         let whole = end == shrinker.found.book.commands.len();
         if whole && shrinker.takes_book(written(&commands)) {
             shrinker.commands(commands);
+            while shrinker.links() {}
         } else {
             shrinker.bytes();
         }

@@ -237,11 +237,9 @@ pub fn about(random: &mut Random, records: &[Record]) -> Vec<Question> {
         questions.push(Question::Candidates { path: hints.config(random), specifier: hints.specifier(random) });
     }
     for _ in 0..random.between(2, 6) {
-        questions.push(Question::Tries {
-            path: hints.config(random),
-            directory: hints.directory(random),
-            specifier: hints.specifier(random),
-        });
+        let is_relative = !hints.roots.is_empty() && random.chance(50);
+        let specifier = if is_relative { random.word(RELATIVE).into_bytes() } else { hints.specifier(random) };
+        questions.push(Question::Tries { path: hints.config(random), directory: hints.directory(random), specifier });
     }
     questions
 }

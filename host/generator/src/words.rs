@@ -21,6 +21,9 @@ pub const FOLDERS: &[&str] = &[
     "/p/src/a/b",
     "/p b",
     "/p/gen",
+    "/p/d",
+    "/p/base",
+    "/p/tsconfig",
 ];
 
 pub const NAMES: &[&str] = &[
@@ -409,6 +412,38 @@ pub const SPECIFIERS: &[&str] = &[
     "/p/gen",
     "./../src/../src/a",
     "../../p/src/a",
+];
+
+pub const RELATIVE: &[&str] = &[
+    "./x",
+    "../x",
+    ".",
+    "..",
+    "./",
+    "../",
+    "./a/b",
+    "../gen/x",
+    "../src/a",
+    "./../gen",
+    "../../gen/x",
+    "./.",
+    "./..",
+    "././a/./",
+    "..//x",
+    "../src",
+    "./a/../..",
+    "../..",
+    "../../..",
+    "./src/../x",
+    "../gen/../src/y",
+    "./x/",
+    "../src/",
+    ".x",
+    "...",
+    "../gen",
+    "./node_modules/m",
+    "./*",
+    "../src/./a/..",
 ];
 
 pub const STARRED: &[&str] = &["", "x", "b", "a/b", "../z", "bc", "*", "./", "c", "..", "/", "${configDir}", "//y", "b*bc"];
