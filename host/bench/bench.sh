@@ -1,5 +1,5 @@
 #!/bin/sh
-# bench.sh [ROUNDS [--without-tries]]: the crate and the library on the same books, as tables. Needs valgrind and python3.
+# bench.sh [ROUNDS]: the crate and the library on the same books, as tables. Needs valgrind and python3.
 set -e
 cd "$(dirname "$0")"
 if [ -z "$TSCONFIG_QUESTIONS_LIB" ] && [ ! -f ../../target/staticlib/libquestions.a ]; then
@@ -9,4 +9,4 @@ books=$(mktemp -d)
 trap 'rm -rf "$books"' EXIT
 python3 ../questions_bench/books.py "$books" >"$books/sizes"
 cargo build --release --offline --quiet
-"${CARGO_TARGET_DIR:-target}/release/bench" "$books" "${1:-30}" $2
+"${CARGO_TARGET_DIR:-target}/release/bench" "$books" "${1:-30}"

@@ -1,5 +1,5 @@
 #!/bin/sh
-# run.sh SEED ROUNDS [--without-tries]: lends bytes that nobody intended to the C functions.
+# run.sh SEED ROUNDS: lends bytes that nobody intended to the C functions.
 set -e
 cd "$(dirname "$0")"
 if [ -z "$TSCONFIG_QUESTIONS_LIB" ] && [ ! -f ../../target/staticlib/libquestions.a ]; then

@@ -1,5 +1,5 @@
 #!/bin/sh
-# run.sh SEED CASES [--first NUMBER] [--without-tries] [--wrong NAME]: builds the runner and holds the library against the judge.
+# run.sh SEED CASES [--first NUMBER] [--only LETTERS] [--wrong NAME]: builds the runner and holds the library against the judge.
 set -e
 cd "$(dirname "$0")"
 if [ -z "$TSCONFIG_QUESTIONS_LIB" ] && [ ! -f ../../target/staticlib/libquestions.a ]; then

@@ -12,7 +12,7 @@ use measure::{Measured, measure, measure_whole};
 
 const BOOKS: [&str; 4] = ["typical", "limits", "ladder", "hostile"];
 const GROWTH: [usize; 7] = [1, 2, 4, 8, 16, 32, 64];
-const USAGE: &str = "bench FOLDER ROUNDS [--without-tries]";
+const USAGE: &str = "bench FOLDER ROUNDS";
 
 /// Callgrind's count of instructions for one call of the library, with what is asked handed over again.
 fn instructions(folder: &Path, book: &str, line: &Line) -> Result<String, String> {
@@ -84,12 +84,12 @@ fn whole(folder: &Path, rounds: usize) -> Result<(), String> {
     Ok(())
 }
 
-fn books(folder: &Path, rounds: usize, letters: &str) -> Result<(), String> {
+fn books(folder: &Path, rounds: usize) -> Result<(), String> {
     println!("| book | question | instructions | library, us | fresh, us | fresh / library | warm, us | warm / library |");
     println!("|---|---|---|---|---|---|---|---|");
     for name in BOOKS {
         let (book, lines) = Book::open(folder, name)?;
-        for line in lines.iter().filter(|line| letters.contains(line.letter)) {
+        for line in &lines {
             let shown = line.text().replace('\t', " ");
             let shown: String = shown.chars().take(60).collect();
             println!("| {name} | `{shown}` | {} | {} |", instructions(folder, name, line)?, cells(&measure(&book, line, rounds)));
@@ -98,14 +98,14 @@ fn books(folder: &Path, rounds: usize, letters: &str) -> Result<(), String> {
     Ok(())
 }
 
-fn growth(folder: &Path, rounds: usize, letters: &str) -> Result<(), String> {
+fn growth(folder: &Path, rounds: usize) -> Result<(), String> {
     println!("\n| records | question | instructions | library, us | fresh, us | fresh / library | warm, us | warm / library |");
     println!("|---|---|---|---|---|---|---|---|");
     for count in GROWTH {
         let name = format!("records-{count}");
         let (book, lines) = Book::open(folder, &name)?;
         let mut seen = String::new();
-        for line in lines.iter().filter(|line| letters.contains(line.letter)) {
+        for line in &lines {
             if !seen.contains(line.letter) {
                 seen.push(line.letter);
                 println!(
@@ -128,14 +128,13 @@ fn once(folder: &str, name: &str, line: &str) -> Result<(), String> {
 }
 
 fn run(words: &[&str]) -> Result<(), String> {
-    let letters = if words.contains(&"--without-tries") { "BOC" } else { "BOCT" };
     match words {
         ["--once", folder, name, line] => once(folder, name, line),
-        [folder, rounds, ..] => {
+        [folder, rounds] => {
             let rounds = rounds.parse().map_err(|_| USAGE.to_string())?;
-            books(Path::new(folder), rounds, letters)?;
+            books(Path::new(folder), rounds)?;
             whole(Path::new(folder), rounds)?;
-            growth(Path::new(folder), rounds, letters)
+            growth(Path::new(folder), rounds)
         }
         _ => Err(USAGE.to_string()),
     }

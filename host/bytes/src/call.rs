@@ -24,8 +24,6 @@ const SHOWN: u64 = 20;
 
 #[derive(Default)]
 pub struct Calls {
-    /// The kinds of questions that are asked.
-    pub letters: Vec<u8>,
     pub count: u64,
     pub refused: [u64; 14],
     pub slowest: Duration,
@@ -88,10 +86,6 @@ fn is_formed(outcome: &Outcome, letter: u8, commands: u64, room: u64) -> bool {
 }
 
 impl Calls {
-    pub fn new(letters: &[u8]) -> Self {
-        Self { letters: letters.to_vec(), ..Self::default() }
-    }
-
     /// From here on, faults are told as faults of this.
     pub fn now(&mut self, what: String) {
         self.what = what;
@@ -137,5 +131,56 @@ impl Calls {
             self.fault("a slice lent to be read was changed.");
         }
         outcome
+    }
+}
+
+#[cfg(test)]
+mod tests {
+    use super::*;
+
+    const NONE: Numbers = Numbers { number: 0, place: 0, first: 0, second: 0, bytes: 0 };
+
+    /// How many faults are found in a call of a library that does this to an output of 8 bytes.
+    fn faults(letter: u8, wrong: impl FnOnce(&mut [u8]) -> Numbers) -> u64 {
+        let mut calls = Calls::default();
+        calls.run(letter, 100, 8, wrong);
+        calls.faults
+    }
+
+    #[test]
+    fn an_answer_is_no_fault() {
+        assert_eq!(faults(b'C', |_| NONE), 0);
+        assert_eq!(faults(b'O', |_| Numbers { first: 65_535, second: 65_535, ..NONE }), 0);
+        assert_eq!(faults(b'B', |_| Numbers { number: 13, place: 9, ..NONE }), 0);
+        let one_path = |out: &mut [u8]| {
+            out[..3].copy_from_slice(&[1, 0, b'x']);
+            Numbers { first: 1, bytes: 3, ..NONE }
+        };
+        assert_eq!(faults(b'C', one_path), 0);
+    }
+
+    #[test]
+    fn bytes_outside_the_answer_are_looked_at() {
+        let behind = |out: &mut [u8]| {
+            out[0] ^= 1;
+            NONE
+        };
+        assert_eq!(faults(b'C', behind), 1);
+        let refused = |out: &mut [u8]| {
+            out[7] ^= 1;
+            Numbers { number: 9, place: 3, ..NONE }
+        };
+        assert_eq!(faults(b'C', refused), 1);
+    }
+
+    #[test]
+    fn numbers_that_no_answer_has_are_found() {
+        assert_eq!(faults(b'C', |_| Numbers { bytes: 9, ..NONE }), 1);
+        assert_eq!(faults(b'C', |_| Numbers { first: 1, ..NONE }), 1);
+        assert_eq!(faults(b'C', |_| Numbers { number: 14, ..NONE }), 1);
+        assert_eq!(faults(b'C', |_| Numbers { number: 2, place: 101, ..NONE }), 1);
+        assert_eq!(faults(b'C', |_| Numbers { number: 13, place: 8, ..NONE }), 1);
+        assert_eq!(faults(b'C', |_| Numbers { number: 7, first: 1, ..NONE }), 1);
+        assert_eq!(faults(b'O', |_| Numbers { first: 65_535, second: 0, ..NONE }), 1);
     }
 }

@@ -11,6 +11,8 @@ pub const LONGEST: usize = 512;
 /// Output enough for nearly every answer of the books here.
 const ENOUGH: usize = 8192;
 
+const LETTERS: &[u8] = b"BOCT";
+
 fn question(letter: u8, mut field: impl FnMut() -> Vec<u8>) -> Question {
     match letter {
         b'B' => Question::Build { path: field() },
@@ -35,7 +37,7 @@ fn noise(random: &mut Random, most: usize) -> Vec<u8> {
 /// Bytes that are nothing at all.
 pub fn random_bytes(calls: &mut Calls, random: &mut Random) {
     let book = Bytes { commands: noise(random, 60), text: noise(random, 200) };
-    let asked = question(*random.pick(&calls.letters), || noise(random, 40));
+    let asked = question(*random.pick(LETTERS), || noise(random, 40));
     calls.question(&book, &asked, random.below(100));
 }
 
@@ -48,7 +50,6 @@ pub fn damaged(calls: &mut Calls, random: &mut Random, seed: u64, number: u64) {
             bytes[at] = if random.chance(50) { random.byte() } else { bytes[at] ^ (1 << random.below(8)) };
         }
     }
-    case.questions.retain(|question| calls.letters.contains(&question.letter()));
     for mut question in case.questions {
         for field in question.fields_mut() {
             if random.chance(20) && !field.is_empty() {
@@ -74,9 +75,6 @@ fn expected(whole: &Outcome, room: usize) -> (u64, u64, u64, Vec<u8>) {
 pub fn rooms(calls: &mut Calls, seed: u64, number: u64) {
     let case = generator::case(seed, number);
     for question in &case.questions {
-        if !calls.letters.contains(&question.letter()) {
-            continue;
-        }
         let whole = calls.question(&case.book, question, ENOUGH);
         let need = whole.output.len();
         for room in (0..need + 4).filter(|room| *room < 40 || room + 40 > need) {
@@ -97,7 +95,7 @@ pub fn same_slice(calls: &mut Calls, random: &mut Random) {
         1 => Bytes::write(&[record, Command::lone(book::END)], book::Layout::EndToEnd).commands,
         _ => b"/p/a.ts"[..random.below(8)].to_vec(),
     };
-    let letter = *random.pick(&calls.letters);
+    let letter = *random.pick(LETTERS);
     let book = Bytes { commands: bytes.clone(), text: bytes.clone() };
     let asked = question(letter, || bytes.clone());
     let room = random.below(50);

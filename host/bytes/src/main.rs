@@ -28,8 +28,8 @@ fn watch(seed: u64) {
     }
 }
 
-fn run(seed: u64, rounds: u64, letters: &[u8]) -> Calls {
-    let mut calls = Calls::new(letters);
+fn run(seed: u64, rounds: u64) -> Calls {
+    let mut calls = Calls::default();
     calls.now("sizes".to_string());
     sizes::sizes(&mut calls);
     println!("sizes: {} calls", calls.count);
@@ -49,16 +49,13 @@ fn run(seed: u64, rounds: u64, letters: &[u8]) -> Calls {
 }
 
 fn main() -> ExitCode {
-    let mut words: Vec<String> = std::env::args().skip(1).collect();
-    let letters: &[u8] = if words.last().is_some_and(|word| word == "--without-tries") { b"BOC" } else { b"BOCT" };
-    words.truncate(words.len() - (4 - letters.len()));
-    let given: Vec<Option<u64>> = words.iter().map(|word| word.parse().ok()).collect();
+    let given: Vec<Option<u64>> = std::env::args().skip(1).map(|word| word.parse().ok()).collect();
     let [Some(seed), Some(rounds)] = given[..] else {
-        eprintln!("bytes SEED ROUNDS [--without-tries]");
+        eprintln!("bytes SEED ROUNDS");
         return ExitCode::from(2);
     };
     thread::spawn(move || watch(seed));
-    let calls = run(seed, rounds, letters);
+    let calls = run(seed, rounds);
     let numbers: Vec<String> = calls.refused.iter().enumerate().map(|(number, count)| format!("{number}: {count}")).collect();
     println!("answered (0) and refused (1 to 13): {}", numbers.join(", "));
     println!("seed {seed}: {} calls, the slowest {} microseconds, {} faults", calls.count, calls.slowest.as_micros(), calls.faults);

@@ -17,13 +17,13 @@ use run::Run;
 use sample::Sample;
 use wrong::Wrong;
 
-const USAGE: &str = "differential SEED CASES [--first NUMBER] [--without-tries] [--wrong NAME]
-differential sample SEED BOOKS FILE [--without-tries]";
+const USAGE: &str = "differential SEED CASES [--first NUMBER] [--only LETTERS] [--wrong NAME]
+differential sample SEED BOOKS FILE [--only LETTERS]";
 
 struct Arguments {
     plain: Vec<String>,
     first: u64,
-    letters: &'static str,
+    letters: String,
     wrong: Option<Wrong>,
 }
 
@@ -32,12 +32,12 @@ fn number(text: &str) -> Result<u64, String> {
 }
 
 fn arguments() -> Result<Arguments, String> {
-    let mut given = Arguments { plain: vec![], first: 0, letters: "BOCT", wrong: None };
+    let mut given = Arguments { plain: vec![], first: 0, letters: "BOCT".to_string(), wrong: None };
     let mut words = std::env::args().skip(1);
     while let Some(word) = words.next() {
         match word.as_str() {
             "--first" => given.first = number(&words.next().unwrap_or_default())?,
-            "--without-tries" => given.letters = "BOC",
+            "--only" => given.letters = words.next().unwrap_or_default(),
             "--wrong" => {
                 let wrong = Wrong::named(&words.next().unwrap_or_default());
                 let names: Vec<&str> = Wrong::names().collect();
@@ -61,10 +61,10 @@ fn run() -> Result<bool, String> {
     let given = arguments()?;
     let plain: Vec<&str> = given.plain.iter().map(String::as_str).collect();
     match plain[..] {
-        ["sample", seed, books, file] => write_sample(number(seed)?, number(books)?, file, given.letters).map(|()| true),
+        ["sample", seed, books, file] => write_sample(number(seed)?, number(books)?, file, &given.letters).map(|()| true),
         [seed, cases] => {
             let asker = Asker::new(given.wrong);
-            Ok(Run::new(number(seed)?, given.first, number(cases)?, given.letters.to_string(), asker).run())
+            Ok(Run::new(number(seed)?, given.first, number(cases)?, given.letters, asker).run())
         }
         _ => Err(USAGE.to_string()),
     }

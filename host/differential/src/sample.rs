@@ -138,7 +138,7 @@ mod tests {
 
     #[test]
     fn what_is_read_back_is_what_the_judge_answers() {
-        let sample = Sample::make(5, 30, "BOC").unwrap();
+        let sample = Sample::make(5, 30, "BOCT").unwrap();
         let mut reader = Reader(&sample.bytes);
         let mut asked = 0;
         while !reader.0.is_empty() {

@@ -160,7 +160,7 @@ mod tests {
         let rooms = [Room::More(9), Room::Fewer(1)];
         for number in 0..2000 {
             let case = generator::case(1, number);
-            for question in case.questions.iter().filter(|question| question.letter() != b'T') {
+            for question in &case.questions {
                 for room in rooms {
                     if let Some(mismatch) = differs(&mut asker, &case.book, question, room) {
                         let found = Found { book: case.book, question: question.clone(), room };

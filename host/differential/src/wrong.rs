@@ -17,6 +17,8 @@ pub enum Wrong {
     FilesByText,
     /// The config that was found is taken for the solution.
     NoSolution,
+    /// The last root dir is looked at and the rest are skipped.
+    LastRootDirOnly,
     /// One byte more is written than the answer has.
     WritesBehind,
     /// 13 is answered one byte too late, with nothing written.
@@ -25,13 +27,14 @@ pub enum Wrong {
 
 type Ask = fn(&Bytes, &Question, &mut [u8]) -> Numbers;
 
-const ALL: [(&str, Wrong, &str); 8] = [
+const ALL: [(&str, Wrong, &str); 9] = [
     ("first-to-last", Wrong::FirstToLast, "BOCT"),
     ("last-parent-only", Wrong::LastParentOnly, "BOCT"),
     ("keys-with-targets-only", Wrong::KeysWithTargetsOnly, "CT"),
     ("extensions-first", Wrong::ExtensionsFirst, "O"),
     ("files-by-text", Wrong::FilesByText, "O"),
     ("no-solution", Wrong::NoSolution, "O"),
+    ("last-root-dir-only", Wrong::LastRootDirOnly, "T"),
     ("writes-behind", Wrong::WritesBehind, "BCT"),
     ("late-thirteen", Wrong::LateThirteen, "BCT"),
 ];
@@ -42,6 +45,16 @@ fn is_normal(string: &[u8]) -> bool {
     let parts: [&[u8]; 3] = [b"//", b"/./", b"/../"];
     let ends: [&[u8]; 3] = [b"/", b"/.", b"/.."];
     !parts.iter().any(|part| string.windows(part.len()).any(|window| window == *part)) && !ends.iter().any(|end| string.ends_with(end))
+}
+
+/// The record with the last of its commands of a kind alone.
+fn keep_last(record: &mut Vec<Command>, code: u8) {
+    let last = record.iter().rposition(|command| command.code == code);
+    let mut at = 0..;
+    record.retain(|command| {
+        let at = at.next();
+        command.code != code || at == last
+    });
 }
 
 impl Wrong {
@@ -101,14 +114,8 @@ impl Wrong {
                     record.swap(*one, *other);
                 }
             }
-            Self::LastParentOnly => {
-                let last = entries.last().copied();
-                let mut at = 0..;
-                record.retain(|command| {
-                    let at = at.next();
-                    command.code != book::EXTENDS || at == last
-                });
-            }
+            Self::LastParentOnly => keep_last(&mut record, book::EXTENDS),
+            Self::LastRootDirOnly => keep_last(&mut record, book::ROOT_DIR),
             Self::KeysWithTargetsOnly => {
                 let codes: Vec<u8> = record.iter().map(|command| command.code).collect();
                 let mut at = 0..;
