@@ -80,6 +80,13 @@ impl Line {
         Some(Self { letter: 'T', fields: vec![self.fields[0].clone(), format!("{folder}/src"), self.fields[1].clone()] })
     }
 
+    /// The letter, and the path or specifier that is asked.
+    pub fn short(&self) -> String {
+        let asked = self.fields.last().unwrap();
+        let start: String = asked.chars().take(40).collect();
+        format!("{} {start}{}", self.letter, if asked.len() > 40 { ".." } else { "" })
+    }
+
     pub fn text(&self) -> String {
         format!("{} {}", self.letter, self.fields.join("\t"))
     }
@@ -98,6 +105,13 @@ pub fn crate_answers(resolver: &Resolver, line: &Line) -> usize {
             black_box(tested.expect("nothing is at fault").0).len()
         }
     }
+}
+
+/// The crate's answer by a resolver made for it. It is called by its name under callgrind.
+#[unsafe(no_mangle)]
+#[inline(never)]
+pub extern "C" fn fresh_answers(book: &Book, line: &Line) -> usize {
+    crate_answers(&book.fresh(), line)
 }
 
 /// Every config of the book loaded by this resolver, whether a question needs it or not.

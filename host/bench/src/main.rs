@@ -1,33 +1,34 @@
 //! The crate and the library on the same books: see README.md.
 
 mod asked;
+mod clock;
 mod files;
 mod measure;
 
 use std::path::Path;
 use std::process::{Command, ExitCode};
 
-use asked::{Book, Line, library_answers};
+use asked::{Book, Line, fresh_answers, library_answers};
 use measure::{Measured, measure, measure_whole};
 
 const BOOKS: [&str; 4] = ["typical", "limits", "ladder", "hostile"];
 const GROWTH: [usize; 7] = [1, 2, 4, 8, 16, 32, 64];
 const USAGE: &str = "bench FOLDER ROUNDS";
 
-/// Callgrind's count of instructions for one call of the library, with what is asked handed over again.
-fn instructions(folder: &Path, book: &str, line: &Line) -> Result<String, String> {
+/// Callgrind's count of instructions for one call of a function, which another run of this program makes.
+fn instructions(function: &str, folder: &Path, book: &str, line: &Line) -> Result<String, String> {
     let this = std::env::current_exe().map_err(|error| error.to_string())?;
     let run = Command::new("valgrind")
-        .args(["--tool=callgrind", "--toggle-collect=library_answers", "--callgrind-out-file=/dev/null"])
+        .args(["--tool=callgrind", &format!("--toggle-collect={function}"), "--callgrind-out-file=/dev/null"])
         .arg(this)
-        .arg("--once")
+        .args(["--once", function])
         .arg(folder)
         .args([book, &line.text()])
         .output()
         .map_err(|error| format!("valgrind cannot be run: {error}."))?;
     let told = String::from_utf8_lossy(&run.stderr).into_owned();
-    let count =
-        told.lines().find_map(|line| line.split_once("Collected : ")).ok_or_else(|| format!("callgrind counted nothing: {told}"))?;
+    let count = told.lines().find_map(|line| line.split_once("Collected : "));
+    let count = count.ok_or_else(|| format!("callgrind counted nothing: {told}"))?;
     Ok(with_commas(count.1.trim()))
 }
 
@@ -84,52 +85,52 @@ fn whole(folder: &Path, rounds: usize) -> Result<(), String> {
     Ok(())
 }
 
+/// One row of a table: what is asked, instructions, and times.
+fn row(folder: &Path, name: &str, book: &Book, line: &Line, rounds: usize) -> Result<String, String> {
+    let [library, fresh] = ["library_answers", "fresh_answers"].map(|function| instructions(function, folder, name, line));
+    Ok(format!("{}, {} | {}", library?, fresh?, cells(&measure(book, line, rounds))))
+}
+
+const HEAD: &str = "question | instructions: library, fresh | library, us | fresh, us | fresh / library | warm, us | warm / library |";
+
 fn books(folder: &Path, rounds: usize) -> Result<(), String> {
-    println!("| book | question | instructions | library, us | fresh, us | fresh / library | warm, us | warm / library |");
-    println!("|---|---|---|---|---|---|---|---|");
+    println!("| book | {HEAD}\n|---|---|---|---|---|---|---|---|");
     for name in BOOKS {
         let (book, lines) = Book::open(folder, name)?;
         for line in &lines {
-            let shown = line.text().replace('\t', " ");
-            let shown: String = shown.chars().take(60).collect();
-            println!("| {name} | `{shown}` | {} | {} |", instructions(folder, name, line)?, cells(&measure(&book, line, rounds)));
+            println!("| {name} | `{}` | {} |", line.short(), row(folder, name, &book, line, rounds)?);
         }
     }
     Ok(())
 }
 
 fn growth(folder: &Path, rounds: usize) -> Result<(), String> {
-    println!("\n| records | question | instructions | library, us | fresh, us | fresh / library | warm, us | warm / library |");
-    println!("|---|---|---|---|---|---|---|---|");
+    println!("\n| records | {HEAD}\n|---|---|---|---|---|---|---|---|");
     for count in GROWTH {
         let name = format!("records-{count}");
         let (book, lines) = Book::open(folder, &name)?;
-        let mut seen = String::new();
-        for line in &lines {
-            if !seen.contains(line.letter) {
-                seen.push(line.letter);
-                println!(
-                    "| {count} | {} | {} | {} |",
-                    line.letter,
-                    instructions(folder, &name, line)?,
-                    cells(&measure(&book, line, rounds))
-                );
-            }
+        for letter in ['B', 'O', 'C', 'T'] {
+            let line = lines.iter().find(|line| line.letter == letter).expect("each kind is asked");
+            println!("| {count} | {letter} | {} |", row(folder, &name, &book, line, rounds)?);
         }
     }
     Ok(())
 }
 
-/// One call of the library, for callgrind.
-fn once(folder: &str, name: &str, line: &str) -> Result<(), String> {
+/// One call of a function, for callgrind.
+fn once(function: &str, folder: &str, name: &str, line: &str) -> Result<(), String> {
     let (book, _) = Book::open(Path::new(folder), name)?;
-    let number = library_answers(&book, &Line::parse(line)?, &mut Box::new([0; 1 << 18]));
-    if number == 0 { Ok(()) } else { Err(format!("{line} is refused by {number}.")) }
+    let line = Line::parse(line)?;
+    match function {
+        "library_answers" => drop(library_answers(&book, &line, &mut Box::new([0; 1 << 18]))),
+        _ => drop(fresh_answers(&book, &line)),
+    }
+    Ok(())
 }
 
 fn run(words: &[&str]) -> Result<(), String> {
     match words {
-        ["--once", folder, name, line] => once(folder, name, line),
+        ["--once", function, folder, name, line] => once(function, folder, name, line),
         [folder, rounds] => {
             let rounds = rounds.parse().map_err(|_| USAGE.to_string())?;
             books(Path::new(folder), rounds)?;

@@ -1,8 +1,9 @@
 //! Times of three ways to answer a question, taken in turn.
 
-use std::time::{Duration, Instant};
+use std::time::Duration;
 
-use crate::asked::{Book, Line, crate_answers, crate_loads_all, library_answers};
+use crate::asked::{Book, Line, crate_answers, crate_loads_all, fresh_answers, library_answers};
+use crate::clock;
 
 /// How long one way is measured in a round.
 const ROUND: Duration = Duration::from_millis(4);
@@ -40,9 +41,9 @@ struct Way<'a> {
 
 impl<'a> Way<'a> {
     fn new(mut call: impl FnMut() + 'a) -> Self {
-        let before = Instant::now();
+        let end = clock::now() + ROUND;
         let mut calls = 0;
-        while before.elapsed() < ROUND {
+        while clock::now() < end {
             call();
             calls += 1;
         }
@@ -50,11 +51,11 @@ impl<'a> Way<'a> {
     }
 
     fn round(&mut self) {
-        let before = Instant::now();
+        let before = clock::now();
         for _ in 0..self.calls {
             (self.call)();
         }
-        self.times.0.push(before.elapsed().as_nanos() as f64 / f64::from(self.calls));
+        self.times.0.push((clock::now() - before).as_nanos() as f64 / f64::from(self.calls));
     }
 }
 
@@ -94,7 +95,7 @@ pub fn measure(book: &Book, line: &Line, rounds: usize) -> Measured {
             library_answers(book, line, &mut out);
         }),
         Way::new(|| {
-            crate_answers(&book.fresh(), line);
+            fresh_answers(book, line);
         }),
         Way::new(|| {
             crate_answers(&kept, line);

@@ -109,36 +109,8 @@ fn clashing(random: &mut Random, commands: &[Command]) -> Vec<Command> {
 
 /// Strings that some rule refuses and another accepts.
 const STRINGS: &[&[u8]] = &[
-    b"a\\b",
-    b"a\x7f",
-    b"\x1f",
-    b"\xc3\xa9",
-    b"/a/",
-    b"//",
-    b"/a/../b",
-    b"/a*",
-    b"/[",
-    b"***",
-    b"a**",
-    b"{a}",
-    b"!x",
-    b"/",
-    b"rel",
-    b"/a?",
-    b"/a#",
-    b"",
-    b"\n",
-    b"${configDir}**",
-    b"${configDir}{",
-    b"/a/.",
-    b"/.",
-    b"/a//b",
-    b"**a",
-    b"**/***",
-    b"a]",
-    b"/~/ ",
-    b"\x80",
-    b"\0",
+    b"a\\b", b"a\x7f", b"\x1f", b"\xc3\xa9", b"/a/", b"//", b"/a/../b", b"/a*", b"/[", b"***", b"a**", b"{a}", b"!x", b"/", b"rel", b"/a?",
+    b"/a#", b"", b"\n", b"${configDir}**", b"${configDir}{", b"/a/.", b"/.", b"/a//b", b"**a", b"**/***", b"a]", b"/~/ ", b"\x80", b"\0",
 ];
 
 fn break_string(random: &mut Random, commands: &mut [Command]) {

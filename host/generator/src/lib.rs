@@ -37,3 +37,18 @@ pub fn case(seed: u64, number: u64) -> Case {
     let book = damage::written(&mut random, commands, layout);
     Case { book, questions }
 }
+
+#[cfg(test)]
+mod tests {
+    use super::case;
+
+    #[test]
+    fn a_case_depends_on_its_seed_and_number_alone() {
+        let shown = |seed, number| format!("{:?}", case(seed, number));
+        let later = shown(1, 7);
+        shown(1, 6);
+        assert_eq!(shown(1, 7), later);
+        assert_ne!(shown(2, 7), later);
+        assert_ne!(shown(1, 8), later);
+    }
+}
