@@ -21,7 +21,7 @@ from book import book  # noqa: E402
 
 JUDGE = os.path.abspath(os.environ.get('JUDGE', os.path.join(HOST, 'judge', 'target', 'release', 'judge')))
 
-NO_QUESTION = b'no question: B path, O path, or C path, tab, specifier\n'
+NO_QUESTION = b'no question: B path, O path, C path, tab, specifier, or T path, tab, directory, tab, specifier\n'
 TOO_LONG = b'line too long: at most 4095 bytes\n'
 
 # ------------------------------------------------------------ the book
@@ -61,6 +61,8 @@ RECORDS = [
     # 14: empty strings
     ('/odd/tsconfig.json', dict(files=[''], include=[''], exclude=[''], baseUrl='', paths=[('src/*', ['src/*', '../*', '']), ('*', ['/abs//*/./y'])],
                                 rootDirs=[''], outDir='', declarationDir='', texts={0: '', 6: 'es6'})),
+    # 15: root dirs one in the other, the same by components, and one twice
+    ('/roots/tsconfig.json', dict(rootDirs=['src', 'gen', './src/', 'src/deep', '/roots/src/', 'src/../gen', '/roots/srcs', 'gen/'])),
     # from here on: configs that do not load
     ('/bad/missing/tsconfig.json', dict(extends=['/net/base', './nowhere'])),
     ('/bad/lost/tsconfig.json', dict(references=['../../net/shared', '../nowhere'])),
@@ -80,6 +82,10 @@ RECORDS = [
 
 def candidates(path, *specifiers):
     return ['C %s\t%s' % (path, specifier) for specifier in specifiers]
+
+
+def tries(path, directory, *specifiers):
+    return ['T %s\t%s\t%s' % (path, directory, specifier) for specifier in specifiers]
 
 
 ALP, BAY, CAY, DUN, EEL = ['/net/stations/' + name for name in ('alp', 'bay', 'cay', 'dun', 'eel')]
@@ -103,6 +109,16 @@ MAPPED = (
     candidates('/net/tools', 'plain') +
     candidates('/odd', 'src/a', 'b', '', './c') +
     candidates('/net/base.json', '@f/' + 's' * 509, '@f/' + 's' * 510))
+# the root dirs of BAY are /net/bands, BAY/gen and /net/shared/
+TRIED = (
+    tries(ALP, ALP, '@f/band', '@f/quiet', '@none', '@closed/x', 'site.cfg', 'plain', '/abs/x', '', './near') +
+    tries(BAY, BAY + '/gen/a', './x', '../x', '..', '.', '../../out', '.x', './../../gen', '@f/band', 'plain') +
+    tries(BAY, '/net/shared', './x', '.', '..', './a/../b/') + tries(BAY, '/net/bands', './x', '.', '../bands', '../shared/x') + tries(BAY, '/elsewhere', './x') +
+    tries(BAY, BAY + '/node_modules/a', './x', '@f/band', 'plain') + tries(BAY, '/net/node_modules', '@f/band') + tries(BAY, '/net/node_modules2', '@f/band') +
+    tries(CAY, CAY, '@f/band', 'plain', './near', '/abs/x', '') + tries(DUN, DUN, 'plain', './near') + tries('/net/tools', '/net/tools', 'plain', './a') +
+    tries('/', '/', './x', '.', 'plain') + tries('/odd', '/odd', './c', '.', 'src/a', 'b', '') +
+    tries('/roots', '/roots/src', './x', '.', '..', '../gen/x', '../src/deep/y') + tries('/roots', '/roots/src/deep', './x', '../x', '.') +
+    tries('/roots', '/roots/gen', './x', '.') + tries('/roots', '/roots', './x', './src', './srcs/x'))
 REFUSED = ['B ' + path for path in (
     '', 'net', '/net/', '/net//base', '/net/../net', '/net/.', '//', '/net?', '/net#', '/net\\base', '/net\t', '/net\r', '/net\x7f', LONG + 'n', ' /net',
     LONG, '/net/none', '/net/bands', '/net/stations', '/net/base.jso', '/bad/missing', '/bad/lost', '/bad/folder', '/bad/ring/a', '/bad/ring/b.json', '/bad/ring/c',
@@ -110,16 +126,18 @@ REFUSED = ['B ' + path for path in (
     'O /net?', 'O a.ts', 'O /net/', 'O ' + LONG + 'n', 'O ' + LONG, 'O /bad/missing/a.ts', 'O /bad/lost/a.ts', 'O /bad/folder/a.ts', 'O /bad/self/a.ts', 'O /bad/empty/a.ts',
     'O /bad/bare/x/a.ts', 'O /bad/near/a.ts', 'O /bad/outer/a.ts', 'O /bad/ring/a.ts'] + (
     candidates('/net/', 'x') + candidates('/none', 'x') + candidates('/bad/self', 'x') + candidates('/bad/bare', '@f/band') + candidates('/bad/empty', 'x') +
-    candidates('/bad/ring/a', 'x') + candidates('/net', 'a\\b', 'a\tb', 'a\x1f'))
-NO_QUESTIONS = ['', ' ', 'B', 'O', 'B/net', 'b /net', 'X /net', 'B\t/net', 'C /net', 'C ', 'C', ' B /net', 'BB /net', '#']
+    candidates('/bad/ring/a', 'x') + candidates('/net', 'a\\b', 'a\tb', 'a\x1f') +
+    tries('/net/', '/net', 'x') + tries('/net', '/net/', 'x') + tries('/net', 'net', 'x') + tries('/net', '/net', 'a\\b', 'a\tb') + tries('/none', '/net', 'x') +
+    tries('/bad/ring/a', '/net', 'x') + tries('/bad/ring/a', '/net/node_modules', './x') + tries('/bad/self', '/net/node_modules', 'x') + tries('/bad/bare', '/net', './x'))
+NO_QUESTIONS = ['', ' ', 'B', 'O', 'B/net', 'b /net', 'X /net', 'B\t/net', 'C /net', 'C ', 'C', 'T /net', 'T /net\t/net', 'T', ' B /net', 'BB /net', '#']
 LONG_LINES = ['B /' + 'x' * 4093, 'B /' + 'x' * 4094, '-' * 9000, 'O ' + ALP + '/main.ts' + ' ' * 4096, 'y' * 4096]
 
 # no form, too long and known ones by turns; the last line has no end
-LINES = BUILDS + NO_QUESTIONS[:7] + OWNERS + ['B /' + 'x' * 4092] + LONG_LINES[:2] + MAPPED + NO_QUESTIONS[7:] + REFUSED + LONG_LINES[2:] + [
+LINES = BUILDS + NO_QUESTIONS[:7] + OWNERS + ['B /' + 'x' * 4092] + LONG_LINES[:2] + MAPPED + NO_QUESTIONS[7:] + TRIED + REFUSED + LONG_LINES[2:] + [
     'O ' + DUN + '/last.ts', 'C %s\t@f/last' % ALP]
 
 ROOMS = BUILDS + [line for line in MAPPED if line.startswith('C ' + ALP) or line.startswith('C /odd') or line.startswith('C ' + DUN)] + [
-    'B /net/none', 'B /bad/ring/a', 'C /bad/bare\t@f/band', 'B net']
+    'B /net/none', 'B /bad/ring/a', 'C /bad/bare\t@f/band', 'B net'] + TRIED + ['T /bad/bare\t/net\tx', 'T /net\tnet\tx']
 
 
 # ------------------------------------------------------------ the answers
@@ -149,7 +167,7 @@ def room(line, said):
 # each stands in some answer
 WANTED = [r'^%s(=.+)?$' % word for word in ('files', 'include', 'exclude', 'rootDir')] + [
     r'^%s=.+$' % word for word in ('files', 'include', 'exclude', 'rootDir', 'baseUrl', 'base', 'key', 'target', 'reference', 'outDir', 'declarationDir')] + [
-    r'^%s$' % word for word in ('files', 'include', 'exclude', 'rootDir', 'paths', 'owner none', 'candidates 0', 'candidates [1-9]')] + [
+    r'^%s$' % word for word in ('files', 'include', 'exclude', 'rootDir', 'paths', 'owner none', 'candidates 0', 'candidates [1-9]', 'tries 0', 'tries [2-9]', 'tries 1')] + [
     r'^flag %d=[01]$' % i for i in range(11)] + [r'^text %d=' % i for i in range(7)] + [
     r'^refused 7 0$', r'^refused 8 65535$', r'^refused 8 \d\d$', r'^refused 9 \d+$', r'^refused 10 \d+$', r'^refused 11 \d+$', r'^refused 12 \d+$',
     r'^owner (\d+) \1$', r'^owner (\d+) (?!\1$)\d+$', r'^built \d+ 0$', r'^built \d+ 5$', r'^no question', r'^line too long']

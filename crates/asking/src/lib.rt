@@ -6,6 +6,7 @@ use questions::Numbers;
 use questions::tsconfig_build;
 use questions::tsconfig_candidates;
 use questions::tsconfig_owner;
+use questions::tsconfig_tries;
 use text::Found;
 use text::find_byte;
 use text::from;
@@ -135,11 +136,28 @@ fn answer_candidates(commands: &[u8], text: &[u8], path: &[u8], specifier: &[u8]
     say_list(b"candidates", r.first, upto(out, r.bytes as usize));
 }
 
+fn answer_tries(
+    commands: &[u8],
+    text: &[u8],
+    path: &[u8],
+    directory: &[u8],
+    specifier: &[u8],
+    out: &mut [u8],
+) {
+    let r = tsconfig_tries(commands, text, path, directory, specifier, out);
+    if r.number != 0 {
+        say_refused(r);
+        return;
+    }
+    say_list(b"tries", r.first, upto(out, r.bytes as usize));
+}
+
 // What a line asks.
 pub enum Kind {
     Build,
     Owner,
     Candidates,
+    Tries,
     Unknown,
 }
 
@@ -150,7 +168,7 @@ fn has_tab(s: &[u8]) -> bool {
     true
 }
 
-// A letter, a blank, and the letter's fields, parted by tabs. The first field holds no tab where another follows.
+// A letter, a blank, and the letter's fields, parted by tabs. A field holds no tab where another follows.
 pub fn kind_of(line: &[u8]) -> Kind {
     if line.len() < 2 {
         return Kind::Unknown;
@@ -164,6 +182,12 @@ pub fn kind_of(line: &[u8]) -> Kind {
         b'C' => {
             if has_tab(line) {
                 return Kind::Candidates;
+            }
+            Kind::Unknown
+        }
+        b'T' => {
+            if has_tab(part_after(line, TAB)) {
+                return Kind::Tries;
             }
             Kind::Unknown
         }
@@ -198,7 +222,20 @@ fn answer(commands: &[u8], text: &[u8], line: &[u8], out: &mut [u8]) {
             other_fields(asked),
             out,
         ),
-        Kind::Unknown => say_line(b"no question: B path, O path, or C path, tab, specifier"),
+        Kind::Tries => {
+            let rest = other_fields(asked);
+            answer_tries(
+                commands,
+                text,
+                first_field(asked),
+                first_field(rest),
+                other_fields(rest),
+                out,
+            );
+        }
+        Kind::Unknown => say_line(
+            b"no question: B path, O path, C path, tab, specifier, or T path, tab, directory, tab, specifier",
+        ),
     }
 }
 

@@ -108,8 +108,8 @@ module _ (s text dir base : Text) (fill : Bool) (part : Text) where
 
 -- Room for all of them
 
-module _ (s text dir base : Text) (fill : Bool) (part : Text) (h : Short dir base part) where
-  laid-length : (ts : List Text) → EachShort ts → length (laid (map (targetAs dir base fill part) ts)) ≤ 6002 * length ts
+module _ (dir base : Text) (fill : Bool) (part : Text) (h : Short dir base part) where
+  pub laid-length : (ts : List Text) → EachShort ts → length (laid (map (targetAs dir base fill part) ts)) ≤ 6002 * length ts
   unfolding laid
   laid-length [] a = omega arith
   laid-length (t ∷ ts) (cons g a) =
@@ -117,9 +117,9 @@ module _ (s text dir base : Text) (fill : Bool) (part : Text) (h : Short dir bas
       let w : Text = laid (map (targetAs dir base fill part) ts) in
       omega (arith, laid-length ts a, target-length dir base part fill h t g, length-append v w)
 
-  pub as-room : (at next : ℕ) → EachShort (targetsOf text (recordAt s next)) → Fits s at → Room at (laid (targetsAs s text dir base fill part next))
+  pub as-room : (s text : Text) (at next : ℕ) → EachShort (targetsOf text (recordAt s next)) → Fits s at → Room at (laid (targetsAs s text dir base fill part next))
   unfolding targetsAs
-  as-room at next a f = record { room = omega (arith, laid-length (targetsOf text (recordAt s next)) a, targets-length text (recordAt s next), record-length s next, f .small, f .near) }
+  as-room s text at next a f = record { room = omega (arith, laid-length (targetsOf text (recordAt s next)) a, targets-length text (recordAt s next), record-length s next, f .small, f .near) }
 
 -- The loop over them: those from `to` on are still to be written
 
@@ -150,7 +150,7 @@ module _ (s text dir base : Text) (fill : Bool) (part : Text) (at next : ℕ) (o
 
       pub puts-asks : Room k (laid (targetAs dir base fill part t ∷ [])) × (Short dir base part × (length t ≤ 512))
       puts-asks = (
-        owes-room _ o₀ at _ o k (p .owes) _ _ rest (as-room s text dir base fill part (pre .1 .0) at next (pre .0) (pre .1 .1)),
+        owes-room _ o₀ at _ o k (p .owes) _ _ rest (as-room dir base fill part (pre .1 .0) s text at next (pre .0) (pre .1 .1)),
         (pre .1 .0, rw q (all-first _ _ _ shorts)),
       )
 

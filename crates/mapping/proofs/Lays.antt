@@ -1,6 +1,6 @@
 -- A path in an answer's layout, and a target that is filled. Assumes nothing.
 use mathlib.Core.Path.{_≡_, refl, sym, ap, subst, _∙_}
-use mathlib.Core.List.{List, [], _∷_, _++_, append-nil}
+use mathlib.Core.List.{List, [], _∷_, _++_, append-nil, append-assoc}
 use Prim.Native.Nat.{ℕ, _+_, _-_, _%_, _/_, _<_}
 use native.Mathlib.Omega.{arith}
 use native.Mathlib.Numerals.{add-one}
@@ -29,6 +29,11 @@ laid-one t = ap (λ (x : Text). sizeOf (length t) ++ x) (append-nil t)
 pub laid-cons : (t : Text) (ts : List Text) → laid (t ∷ ts) ≡ laid (t ∷ []) ++ laid ts
 unfolding laid
 laid-cons t ts = ap (λ (x : Text). sizeOf (length t) ++ (x ++ laid ts)) (sym (append-nil t))
+
+pub laid-append : (ts us : List Text) → laid (ts ++ us) ≡ laid ts ++ laid us
+unfolding laid
+laid-append [] us = refl
+laid-append (t ∷ ts) us = ap (λ (x : Text). sizeOf (length t) ++ x) (ap (λ (x : Text). t ++ x) (laid-append ts us) ∙ sym (append-assoc t (laid ts) (laid us)))
 
 pub laid-one-length : (t : Text) → length (laid (t ∷ [])) ≡ 2 + length t
 laid-one-length t = ap length (laid-one t) ∙ length-append (sizeOf (length t)) t

@@ -3,9 +3,9 @@ use mathlib.Core.Path.{_≡_, refl, sym, ap, subst, _∙_}
 use mathlib.Core.List.{List, [], _∷_, map}
 use mathlib.Core.Bool.{Bool, true, false, _&&_, cond}
 use mathlib.Core.Option.{Option, some, none, Option·map, Option·getD}
-use Prim.Native.Nat.{ℕ, _-_, _≤_}
+use Prim.Native.Nat.{ℕ, _-_, _*_, _≤_}
 use native.Mathlib.Omega.{arith}
-use lib.ListN.{length, drop, length-take, length-drop}
+use lib.ListN.{length, drop, length-take, length-drop, length-map}
 use Rattle.text.specs.Bytes.{Text}
 use Rattle.text.specs.Text.{sameText, starOf}
 use Rattle.text.specs.declared.Found.{Found}
@@ -23,12 +23,14 @@ use Rattle.records.specs.declared.Item.{Item}
 use Rattle.records.specs.declared.Item.the-variants.{At, Missing}
 use Rattle.tsconfig.specs.Build.{adjusted}
 use Rattle.tsconfig.specs.Mapping.{equalKey, longer, bestKey, filled, fromBest, fromEqual, fromPaths}
+use Rattle.values.proofs.Lengths.{targets-length}
 use Rattle.values.proofs.Reading.{good-short}
 use Rattle.mapping.specs.declared.Listed.{Listed}
 use Rattle.tsconfig.specs.Laid.{laid}
 use Rattle.mapping.specs.Keyed.{keyAt, builtKey}
 use Rattle.mapping.specs.Targets.{targetAs, targetsAs, EachShort, Short, Fits, Lists}
 use Rattle.mapping.proofs.Chosen.{keysFrom, keyOf}
+use Rattle.mapping.proofs.Aims.{laid-length}
 
 -- Building keeps the keys, so that it changes no choice
 
@@ -74,23 +76,26 @@ unfolding keysOf
 keys-short text [] h = nil
 keys-short text (c ∷ r) (cons g h) = by-test (is key c) (λ t. rw t (cons (targets-short text r h) (keys-short text r h))) (λ f. rw f (keys-short text r h))
 
--- so are those of a key that was chosen
-abbrev ShortIf : Option Key → Type 0
-ShortIf none = Unit {0}
-ShortIf (some k) = ShortKey k
+-- What holds of each key holds of one that was chosen
 
-equal-short : (s : Text) (ks : List Key) → All ShortKey ks → ShortIf (equalKey s ks)
-unfolding equalKey
-equal-short s [] h = tt
-equal-short s (k ∷ ks) (cons p h) = by-test (sameText (k .key) s) (λ t. rw t p) (λ f. rw f (equal-short s ks h))
+module _ (P : Key → Type 0) where
+  -- it holds of the key, if there is one
+  abbrev If : Option Key → Type 0
+  If none = Unit {0}
+  If (some k) = P k
 
-best-short : (s : Text) (b : Option Key) (ks : List Key) → ShortIf b → All ShortKey ks → ShortIf (bestKey s b ks)
-unfolding bestKey
-best-short s b [] q h = q
-best-short s b (k ∷ ks) q (cons p h) =
-    by-test (isMatch (keyPart (k .key) s) && longer b k)
-    (λ t. rw t (best-short s (some k) ks p h))
-    (λ f. rw f (best-short s b ks q h))
+  equal-holds : (s : Text) (ks : List Key) → All P ks → If (equalKey s ks)
+  unfolding equalKey
+  equal-holds s [] h = tt
+  equal-holds s (k ∷ ks) (cons p h) = by-test (sameText (k .key) s) (λ t. rw t p) (λ f. rw f (equal-holds s ks h))
+
+  best-holds : (s : Text) (b : Option Key) (ks : List Key) → If b → All P ks → If (bestKey s b ks)
+  unfolding bestKey
+  best-holds s b [] q h = q
+  best-holds s b (k ∷ ks) q (cons p h) =
+      by-test (isMatch (keyPart (k .key) s) && longer b k)
+      (λ t. rw t (best-holds s (some k) ks p h))
+      (λ f. rw f (best-holds s b ks q h))
 
 -- What the star stood for is no longer than the specifier
 
@@ -108,9 +113,61 @@ part-length k s = part-at-length (starOf k) k s
 
 -- The ways out
 
-map-map : {A B C : Type 0} (f : B → C) (g : A → B) (l : List A) → map f (map g l) ≡ map (λ a. f (g a)) l
+pub map-map : {A B C : Type 0} (f : B → C) (g : A → B) (l : List A) → map f (map g l) ≡ map (λ a. f (g a)) l
 map-map f g [] = refl
 map-map f g (a ∷ l) = ap (λ x. f (g a) ∷ x) (map-map f g l)
+
+-- How much the keys of a good record give
+
+-- at most n paths, none of them long
+pub record Few (n : ℕ) (ts : List Text) : Type 0 where
+  pub count : length ts ≤ n
+  pub size : length (laid ts) ≤ 6002 * n
+
+pub few-none : {n : ℕ} {ts : List Text} → ts ≡ [] → Few n ts
+unfolding laid
+few-none {n} {ts} e = rw e (record { count = omega arith; size = omega arith })
+
+module _ (text dir base spec : Text) where
+  module _ (n : ℕ) where
+    -- a key has at most n targets, and they are short
+    record FewKey (k : Key) : Type 0 where
+      short : EachShort (k .targets)
+      few : length (k .targets) ≤ n
+
+    keys-few : (r : List Cmd) → All (Good text) r → length r ≤ n → All FewKey (keysOf text r)
+    unfolding keysOf
+    keys-few [] h l = nil
+    keys-few (c ∷ r) (cons g h) l =
+        by-test (is key c)
+        (λ t. rw t (cons (record { short = targets-short text r h; few = omega (arith, l, targets-length text r) }) (keys-few r h (omega (arith, l)))))
+        (λ f. rw f (keys-few r h (omega (arith, l))))
+
+    module _ (h : Short dir base spec) where
+      aims-few : (fill : Bool) (part : Text) → length part ≤ 512 → (ts : List Text) → EachShort ts → length ts ≤ n → Few n (map (targetAs dir base fill part) ts)
+      aims-few fill part p ts e l = record {
+        count = omega (arith, l, length-map ts (targetAs dir base fill part));
+        size = omega (arith, l, laid-length dir base fill part (record { dir-short = h .dir-short; base-short = h .base-short; part-short = p }) ts e);
+      }
+
+      best-few : (o : Option Key) → If FewKey o → Few n (fromBest spec (Option·map (builtKey dir base) o))
+      unfolding fromBest targetAs
+      best-few none q = few-none refl
+      best-few (some k) q =
+          let part : Text = Option·getD (keyPart (k .key) spec) [] in
+          rw (map-map (filled part) (adjusted dir base) (k .targets)) (aims-few true part (omega (arith, part-length (k .key) spec, h .part-short)) (k .targets) (q .short) (q .few))
+
+      equal-few : (ks : List Key) (o : Option Key) → If FewKey o → If FewKey (bestKey spec none ks) → Few n (fromEqual spec (map (builtKey dir base) ks) (Option·map (builtKey dir base) o))
+      unfolding fromEqual targetAs
+      equal-few ks none q w = rw (best-built dir base spec none ks) (best-few (bestKey spec none ks) w)
+      equal-few ks (some k) q w = aims-few false spec (h .part-short) (k .targets) (q .short) (q .few)
+
+  pub paths-few : (r : List Cmd) → All (Good text) r → Short dir base spec → (n : ℕ) → length r ≤ n → Few n (fromPaths spec (some (map (builtKey dir base) (keysOf text r))))
+  unfolding fromPaths
+  paths-few r g h n l =
+      let ks = keysOf text r in
+      let a = keys-few n r g l in
+      rw (equal-built dir base spec ks) (equal-few n h ks (equalKey spec ks) (equal-holds (FewKey n) spec ks a) (best-holds (FewKey n) spec none ks tt a))
 
 pub lists-none : (o : Text) (at : ℕ) → Lists [] o at o (record { count = 0; at = at })
 unfolding laid
@@ -127,7 +184,7 @@ module _ (s text dir base spec : Text) (rec at : ℕ) (pre : All (Good text) (re
     equal-is = sym q ∙ ap (keyAt s text) e
 
     pub equal-asks : EachShort (targetsOf text (recordAt s next)) × (Short dir base spec × Fits s at)
-    equal-asks = (subst ShortIf equal-is (equal-short spec (keysFrom s text rec) (keys-short text (recordAt s rec) (pre .0))), pre .1)
+    equal-asks = (subst (If ShortKey) equal-is (equal-holds ShortKey spec (keysFrom s text rec) (keys-short text (recordAt s rec) (pre .0))), pre .1)
 
     equal-all : targetsAs s text dir base false spec next ≡ all
     unfolding targetsAs targetAs fromPaths fromEqual
@@ -156,7 +213,7 @@ module _ (s text dir base spec : Text) (rec at : ℕ) (pre : All (Good text) (re
 
       pub best-asks : EachShort (targetsOf text (recordAt s next)) × (Short dir base part × Fits s at)
       best-asks = (
-        subst ShortIf best-is (best-short spec none (keysFrom s text rec) tt (keys-short text (recordAt s rec) (pre .0))),
+        subst (If ShortKey) best-is (best-holds ShortKey spec none (keysFrom s text rec) tt (keys-short text (recordAt s rec) (pre .0))),
         (record { dir-short = pre .1 .0 .dir-short; base-short = pre .1 .0 .base-short; part-short = rw d (omega (arith, part-length t spec, pre .1 .0 .part-short)) }, pre .1 .1),
       )
 

@@ -3,7 +3,7 @@ use mathlib.Core.Path.{_≡_, refl, sym, ap, subst, _∙_}
 use mathlib.Core.List.{List, [], _∷_, map}
 use mathlib.Core.Bool.{Bool, true, false, true≢false}
 use mathlib.Core.Option.{Option, some, none, Option·map}
-use Prim.Native.Nat.{ℕ, _≤_, _<_}
+use Prim.Native.Nat.{ℕ, _^_, _≤_, _<_}
 use native.Mathlib.Omega.{arith}
 use lib.ListN.{length, getD, take}
 use Rattle.text.specs.Bytes.{Text, dot}
@@ -27,7 +27,7 @@ use Rattle.tsconfig.specs.Mapping.{fromPaths, aliases, fromBaseUrl, orIfNone, c
 use Rattle.rows.specs.Rows.{slot, beginAt, supplier, numberOf, siteOf, Row}
 use Rattle.rows.specs.Records.{Records, recordsOf, dirOf}
 use Rattle.rows.proofs.Fields.{found-place, found-rec, record-says, supplier-there, row-begin, place-sound, own-sound, site-path, site-none, site-plain, plain}
-use Rattle.values.proofs.Lengths.{normalize-length}
+use Rattle.values.proofs.Lengths.{normalize-length, record-length}
 use Rattle.values.proofs.Reading.{dir-short}
 use Rattle.mapping.specs.declared.Listed.{Listed}
 use Rattle.tsconfig.specs.Laid.{laid}
@@ -35,16 +35,16 @@ use Rattle.mapping.specs.Keyed.{builtKey}
 use Rattle.mapping.specs.Targets.{Short, Fits, Lists}
 use Rattle.mapping.specs.Asks.{configAt, dirAt, Asks}
 use Rattle.mapping.proofs.Lays.{laid-one-length}
-use Rattle.mapping.proofs.Mapped.{lists-none}
+use Rattle.mapping.proofs.Mapped.{lists-none, Few, few-none, paths-few}
 
 -- A specifier read from the base; v is what the buffer holds
 
-module _ (base spec : Text) (at : ℕ) (p : (length base ≤ 1600) × ((length spec ≤ 512) × (at ≤ 65536))) (v buf : Text) (n : ℕ)
+module _ (base spec : Text) (at : ℕ) (p : (length base ≤ 1600) × ((length spec ≤ 1100) × (at < 2 ^ 62))) (v buf : Text) (n : ℕ)
     (h : Holds n buf (normalizeWith base spec)) (q : v ≡ take n buf) where
   read-is : v ≡ normalizeWith base spec
   read-is = q ∙ h .bytes
 
-  read-length : length v ≤ 2113
+  read-length : length v ≤ 2701
   read-length = rw read-is (omega (arith, normalize-length base spec, p .0, p .1 .0))
 
   pub read-asks : Room at (laid (v ∷ [])) × (length v < 65536)
@@ -65,7 +65,7 @@ module _ (commands text : Text) (begins row : List ℕ) (b : Records commands te
   as-dir dir e = e ∙ ap parentOf (site-path commands text begins b row w)
 
   -- the record that a place has names the field
-  said-some : (f : Field) (rec : ℕ) → At rec ≡ beginAt begins row (slot f) → isSome (said text (recordAt commands rec) f) ≡ true
+  pub said-some : (f : Field) (rec : ℕ) → At rec ≡ beginAt begins row (slot f) → isSome (said text (recordAt commands rec) f) ≡ true
   said-some f rec e =
       let n = found-place begins row (slot f) rec e in
       let z : rec ≡ getD begins (supplier row f) 0 = found-rec begins row (slot f) rec e in
@@ -93,11 +93,14 @@ module _ (commands text : Text) (begins row : List ℕ) (base spec : Text) (at :
 
   module _ (dir : Text) (d : dir ≡ dirAt commands text begins row) where
     module _ (k : Bool) (e : k ≡ starts dot spec) (n : k ≡ false) (f : Found) (q : f ≡ beginAt begins row 4) where
-      pub unmapped : f ≡ Nothing → (o : Text) → Lists (aliases config spec) o at o (record { count = 0; at = at })
+      unmapped-is : f ≡ Nothing → aliases config spec ≡ []
       unfolding aliases fromPaths slot
-      unmapped z o =
+      unmapped-is z =
           let y : config .named paths ≡ none = site-none commands text begins (a .0 .0) row (a .0 .1 .0) dir d base (a .0 .1 .1) paths (sym z ∙ q) in
-          rw (← e, n, y) (lists-none o at)
+          rw (← e, n, y) refl
+
+      pub unmapped : f ≡ Nothing → (o : Text) → Lists (aliases config spec) o at o (record { count = 0; at = at })
+      unmapped z o = rw (unmapped-is z) (lists-none o at)
 
       module _ (rec : ℕ) (z : f ≡ At rec) where
         pub mapped-asks : All (Good text) (recordAt commands rec) × (Short dir base spec × Fits commands at)
@@ -118,6 +121,42 @@ module _ (commands text : Text) (begins row : List ℕ) (base spec : Text) (at :
         pub mapped-gives : (o u : Text) (l : Listed) → Lists (fromPaths spec (some (map (builtKey dir base) (keysOf text (recordAt commands rec))))) o at u l → Lists (aliases config spec) o at u l
         unfolding aliases
         mapped-gives o u l y = rw (← e, n, mapped-is) y
+
+        mapped-few : Few 32768 (aliases config spec)
+        unfolding aliases
+        mapped-few =
+            let g = mapped-asks in
+            rw (← e, n, mapped-is) (paths-few text dir base spec (recordAt commands rec) (g .0) (g .1 .0) 32768 (omega (arith, record-length commands rec, g .1 .1 .small)))
+
+      -- they are not many, nor long
+      pub aliases-few : Few 32768 (aliases config spec)
+      unfolding aliases fromPaths slot laid
+      aliases-few = by-found f refl
+        where
+          by-found : (x : Found) → f ≡ x → Few 32768 (aliases config spec)
+          by-found Nothing z = few-none (unmapped-is z)
+          by-found (At rec) z = mapped-few rec z
+
+  -- What baseUrl gives
+
+  module _ (f : Found) (q : f ≡ beginAt begins row 3) where
+    pub base-unnamed : f ≡ Nothing → fromBaseUrl config spec (config .named baseUrl) ≡ []
+    unfolding fromBaseUrl slot
+    base-unnamed n =
+        let x : config .named baseUrl ≡ none = site-none commands text begins (a .0 .0) row (a .0 .1 .0) (dirAt commands text begins row) refl base (a .0 .1 .1) baseUrl (sym n ∙ q) in
+        rw x refl
+
+    from-base : (c : Settings) (v : Option Text) → isSome v ≡ true → fromBaseUrl c spec v ≡ normalizeWith (c .base) spec ∷ []
+    unfolding fromBaseUrl isSome
+    from-base c none e = absurd (true≢false (sym e))
+    from-base c (some v) e = refl
+
+    pub base-named : {rec : ℕ} → f ≡ At rec → fromBaseUrl config spec (config .named baseUrl) ≡ normalizeWith base spec ∷ []
+    unfolding slot builtValue said plain
+    base-named {rec} n =
+        let x = site-plain commands text begins (a .0 .0) row (a .0 .1 .0) (dirAt commands text begins row) refl base (a .0 .1 .1) baseUrl refl rec (sym n ∙ q) in
+        let s : isSome (config .named baseUrl) ≡ true = ap isSome x ∙ is-some-map (builtValue (dirAt commands text begins row) base baseUrl) (said text (recordAt commands rec) baseUrl) ∙ said-some commands text begins row (a .0 .0) (a .0 .1 .0) baseUrl rec (sym n ∙ q) in
+        from-base config (config .named baseUrl) s ∙ ap (λ (t : Text). normalizeWith t spec ∷ []) (sym (a .0 .1 .1))
 
   -- The candidates
 
@@ -153,26 +192,14 @@ module _ (commands text : Text) (begins row : List ℕ) (base spec : Text) (at :
 
       module _ (f : Found) (q : f ≡ beginAt begins row 3) where
         pub no-base : f ≡ Nothing → Lists (candidates config spec) o at u l
-        unfolding fromBaseUrl slot
-        no-base n =
-            let x : config .named baseUrl ≡ none = site-none commands text begins (a .0 .0) row (a .0 .1 .0) (dirAt commands text begins row) refl base (a .0 .1 .1) baseUrl (sym n ∙ q) in
-            rw (by-base, x) (subst (λ (ts : List Text). Lists ts o at u l) no-alias y)
-
-        from-base : (c : Settings) (v : Option Text) → isSome v ≡ true → fromBaseUrl c spec v ≡ normalizeWith (c .base) spec ∷ []
-        unfolding fromBaseUrl isSome
-        from-base c none e = absurd (true≢false (sym e))
-        from-base c (some v) e = refl
+        no-base n = rw (by-base, base-unnamed f q n) (subst (λ (ts : List Text). Lists ts o at u l) no-alias y)
 
         module _ {rec : ℕ} (n : f ≡ At rec) where
           base-is : candidates config spec ≡ normalizeWith base spec ∷ []
-          unfolding slot builtValue said plain
-          base-is =
-              let x = site-plain commands text begins (a .0 .0) row (a .0 .1 .0) (dirAt commands text begins row) refl base (a .0 .1 .1) baseUrl refl rec (sym n ∙ q) in
-              let s : isSome (config .named baseUrl) ≡ true = ap isSome x ∙ is-some-map (builtValue (dirAt commands text begins row) base baseUrl) (said text (recordAt commands rec) baseUrl) ∙ said-some commands text begins row (a .0 .0) (a .0 .1 .0) baseUrl rec (sym n ∙ q) in
-              by-base ∙ from-base config (config .named baseUrl) s ∙ ap (λ (t : Text). normalizeWith t spec ∷ []) (sym (a .0 .1 .1))
+          base-is = by-base ∙ base-named f q n
 
           pub base-gives : (v : Text) (k : ℕ) → Emits (laid (normalizeWith base spec ∷ [])) u (l .at) v k → Lists (candidates config spec) o at v (record { count = 1; at = k })
           base-gives v k e = rw base-is (record { counts = refl; emits = rw (← out-stays, ← at-stays) e })
 
-      pub base-asks : (length base ≤ 1600) × ((length spec ≤ 512) × (l .at ≤ 65536))
-      base-asks = (a .1 .0, (a .1 .1 .0, omega (arith, at-stays, a .1 .1 .1)))
+      pub base-asks : (length base ≤ 1600) × ((length spec ≤ 1100) × (l .at < 2 ^ 62))
+      base-asks = (a .1 .0, (omega (arith, a .1 .1 .0), omega (arith, at-stays, a .1 .1 .1)))

@@ -21,7 +21,7 @@ use values::adjust;
 ghost use mathlib.Core.Path.{_≡_};
 ghost use mathlib.Core.List.{[], _∷_, map};
 ghost use mathlib.Core.Option.{some, none};
-ghost use Prim.Native.Nat.{_≤_, _<_};
+ghost use Prim.Native.Nat.{_^_, _≤_, _<_};
 ghost use lib.ListN.{length};
 ghost use Rattle.text.specs.Emit.{Room, Emits};
 ghost use Rattle.text.specs.Bytes.{dot};
@@ -108,7 +108,7 @@ fn put_size(out: &mut [u8], at: usize, n: usize) -> usize
 }
 
 // Writes a path with its length before it.
-fn put_path(out: &mut [u8], at: usize, v: &[u8]) -> usize
+pub fn put_path(out: &mut [u8], at: usize, v: &[u8]) -> usize
     requires { ⌜ Room at (laid (now v ∷ [])) × (length (now v) < 65536) ⌝ }
     ensures { λ r. ⌜ Emits (laid (now (v .entry) ∷ [])) (now (out .entry)) at (now (out .exit)) r ⌝ }
 {
@@ -222,7 +222,7 @@ fn put_mapped(
 }
 
 // Whether s starts with a dot.
-fn starts_dot(s: &[u8]) -> bool
+pub fn starts_dot(s: &[u8]) -> bool
     ensures { λ r. ⌜ r ≡ starts dot (now (s .entry)) ⌝ }
 {
     if s.len() == 0 {
@@ -232,7 +232,7 @@ fn starts_dot(s: &[u8]) -> bool
 }
 
 // Writes the aliases of the row's config for the specifier: none where it starts with a dot.
-fn put_aliases(
+pub fn put_aliases(
     commands: &[u8],
     text: &[u8],
     begins: &[usize],
@@ -256,11 +256,11 @@ fn put_aliases(
 }
 
 // Writes the specifier as it is read from the base.
-fn put_read(base: &[u8], spec: &[u8], out: &mut [u8], at: usize) -> usize
-    requires { ⌜ (length (now base) ≤ 1600) × ((length (now spec) ≤ 512) × (at ≤ 65536)) ⌝ }
+pub fn put_read(base: &[u8], spec: &[u8], out: &mut [u8], at: usize) -> usize
+    requires { ⌜ (length (now base) ≤ 1600) × ((length (now spec) ≤ 1100) × (at < 2 ^ 62)) ⌝ }
     ensures { λ r. ⌜ Emits (laid (normalizeWith (now (base .entry)) (now (spec .entry)) ∷ [])) (now (out .entry)) at (now (out .exit)) r ⌝ }
 {
-    let mut buf = [0u8; 2200];
+    let mut buf = [0u8; 2800];
     let n = normalize_with(base, spec, &mut buf);
     let path = upto(&buf, n);
     put_path(out, at, path)

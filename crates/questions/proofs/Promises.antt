@@ -1,14 +1,14 @@
 -- Demand 3 of what the entries return. Assumes nothing.
 use mathlib.Core.Path.{_≡_, refl, sym, ap, subst, _∙_}
-use mathlib.Core.List.{List, [], _∷_, _++_, map, reverse}
+use mathlib.Core.List.{List, [], _∷_, _++_, map, reverse, append-assoc}
 use mathlib.Core.Bool.{Bool, true, false, _&&_, _||_, cond}
 use mathlib.Core.Option.{Option, some, none}
-use Prim.Native.Nat.{ℕ, zero, suc, _+_, _-_, _<_, _≤_}
+use Prim.Native.Nat.{ℕ, zero, suc, _+_, _-_, _%_, _/_, _<_, _≤_}
 use native.Mathlib.Omega.{arith}
-use lib.ListN.{length, drop, length-map, length-reverse}
+use lib.ListN.{length, take, drop, length-append, length-map, length-reverse}
 use lib.Dec.{eqb, leb, ltb}
-use Rattle.text.specs.Bytes.{Text, tsconfigJson}
-use Rattle.path.specs.Path.{pushOf, insideNodeModules, components}
+use Rattle.text.specs.Bytes.{Text, dot, tsconfigJson}
+use Rattle.path.specs.Path.{starts, pushOf, insideNodeModules, components}
 use Rattle.path.proofs.Pieces.{by-test}
 use Rattle.book.specs.declared.Cmd.{Cmd}
 use Rattle.book.specs.Answer.{Answer, refused, given, _>>=_, unless}
@@ -20,7 +20,9 @@ use Rattle.book.specs.Sound.{All, nil, cons}
 use Rattle.strings.specs.Strings.{askedPath, stringRule}
 use Rattle.tsconfig.specs.Parsed.{Parsed, parsed}
 use Rattle.tsconfig.specs.Claims.{claimsOwnership, solution}
-use Rattle.tsconfig.specs.Mapping.{candidates}
+use Rattle.tsconfig.specs.Build.{Settings}
+use Rattle.tsconfig.specs.Mapping.{candidates, tries}
+use Rattle.tsconfig.proofs.Tries.{candidates-lead}
 use Rattle.tsconfig_resolver.specs.Find.{recordAt, pathsOf, reached, seen}
 use Rattle.tsconfig_resolver.specs.Project.{Project, Owner, loadRecord, loadFound, loadPath, ownerOf, ownerFrom, ownerAt, owned, folders, siteAt}
 use Rattle.tsconfig_resolver.specs.Line.{line, entriesOf}
@@ -28,14 +30,15 @@ use Rattle.tsconfig_resolver.proofs.Inside.{Fits, find-below, locate-below}
 use Rattle.rows.specs.Records.{recordsOf, parsedOf}
 use Rattle.rows.proofs.Books.{accepted-small}
 use Rattle.tsconfig.specs.Laid.{laid}
-use Rattle.questions.specs.Questions.{Outcome, Reply, fit, asked, listed, book, build, candidatesOf, owner, ownerReply, tsconfigBuild, tsconfigOwner, tsconfigCandidates, returned, output}
-use Rattle.questions.specs.Replies.{numbersOf, Told, buildOf, buildReply, candidatesFrom}
+use Rattle.questions.specs.Questions.{Outcome, Reply, fit, asked, listed, book, build, owner, ownerReply, tsconfigBuild, tsconfigOwner, tsconfigCandidates, tsconfigTries, returned, output}
+use Rattle.questions.specs.Replies.{numbersOf, Told, buildOf, buildReply, pathsBy, pathsFrom, askedFor, askPaths, tsconfigPaths}
 use Rattle.questions.specs.Numbered.{Numbered}
 use Rattle.questions.specs.Demand3.{flatSite, Inherits}
-use Rattle.questions.specs.Promises.{Loads, flatListing, flatCandidates, BuildInherits, CandidatesInherit, OwnerInherits, Passed}
+use Rattle.questions.specs.Promises.{Loads, flatListing, flatAfter, BuildInherits, PathsInherit, CandidatesInherit, TriesInherit, OneStory, OwnerInherits, Passed}
 use Rattle.questions.specs.declared.Numbers.{Numbers}
 use Rattle.questions.proofs.Demand3.{refused-given, given-same, then-given, inherits, inherits-asked}
-use Rattle.questions.proofs.Numbered.{build-numbered, owner-numbered, candidates-numbered}
+use Rattle.questions.proofs.Numbered.{build-numbered, owner-numbered, candidates-numbered, tries-numbered}
+use Rattle.questions.proofs.Replies.{listedReply, candidates-paths, tries-paths}
 
 none-some : {A : Type 0} (o : A) → none ≡ some o → ⊥
 none-some o x = let z : _≡_ {A = ℕ} 0 1 = cc in omega (arith, z)
@@ -85,9 +88,20 @@ book-records commands text rs e =
     let (cs, v, g) = then-given (verdict commands text) _ e in
     rw v (sym (given-same g))
 
--- the reply of candidates
-abbrev listedReply : List Text → Reply
-listedReply ts = record { first = length ts; second = 0; bytes = laid ts }
+same-some : {A : Type 0} {a b : A} → some a ≡ some b → a ≡ b
+same-some e = cc
+
+laid-append : (ts us : List Text) → laid (ts ++ us) ≡ laid ts ++ laid us
+unfolding laid
+laid-append [] us = refl
+laid-append (t ∷ ts) us = ap (λ (x : Text). (length t % 256) ∷ (length t / 256) ∷ (t ++ x)) (laid-append ts us) ∙ ap (λ (x : Text). (length t % 256) ∷ (length t / 256) ∷ x) (sym (append-assoc t (laid ts) (laid us)))
+
+take-first : (x y : Text) → take (length x) (x ++ y) ≡ x
+take-first [] y = refl
+take-first (b ∷ x) y = ap (λ (z : Text). b ∷ z) (take-first x y)
+
+written-first : (new : Text) (k : ℕ) (x y : Text) → k ≡ length x → new ≡ x ++ y → take k new ≡ x
+written-first new k x y e f = rw (e, f) (take-first x y)
 
 module _ (commands text : Text) where
   abbrev rs : List Parsed
@@ -139,33 +153,71 @@ module _ (commands text : Text) where
             ∙ ap (λ (x : ℕ). flatListing rs x ++ drop (r .bytes) old) (sym n);
       }
 
-  -- What tsconfig_candidates promises
+  -- What tsconfig_candidates and tsconfig_tries promise
 
-  pub candidates-inherit :
-      (path s : Text) (r : Numbers) (old new : Text) → Told (tsconfigCandidates commands text path s (length old)) r old new → r .number ≡ 0 → CandidatesInherit rs path s r old new
-  unfolding tsconfigCandidates candidatesOf listed
-  candidates-inherit path s r old new t z =
-      let o = tsconfigCandidates commands text path s (length old) in
-      let (a, e) = answered o r (candidates-numbered commands text path s (length old)) (t .numbers) z in
-      let (qs, b, e₁) = then-given (book commands text) (λ x. candidatesOf x (length old) path s) e in
-      let q : qs ≡ rs = book-records commands text qs b in
-      let e₂ : candidatesOf rs (length old) path s ≡ given a = subst (λ (x : List Parsed). candidatesOf x (length old) path s ≡ given a) q e₁ in
-      let (p, e₃, e₄) = reached-by path (askedPath path && stringRule s) (candidatesFrom s (length old)) a e₂ in
-      let (c, means, loaded, i) = from-path path p e₃ in
-      let f : a ≡ listedReply (candidates (p .site .config) s) = fit-given (length old) (listedReply (candidates (p .site .config) s)) a e₄ in
-      let g : a ≡ listedReply (flatCandidates rs c s) = f ∙ ap listedReply (i .mapped-to s) in
-      let m = same o a r e (t .numbers) in
-      let w : r .bytes ≡ length (laid (flatCandidates rs c s)) = m .bytes ∙ ap (λ (x : Reply). length (x .bytes)) g in
+  module _ (tried : Bool) (path directory s : Text) (r : Numbers) (old new : Text) where
+    abbrev outcome : Outcome
+    outcome = tsconfigPaths tried commands text path directory s (length old)
+
+    paths-inherit : Told outcome r old new → Numbered outcome → r .number ≡ 0 → PathsInherit rs path (pathsBy tried directory s) r old new
+    unfolding listed
+    paths-inherit t h z =
+        let (a, e) = answered outcome r h (t .numbers) z in
+        let (qs, b, e₁) = then-given (book commands text) (λ x. askPaths tried x (length old) path directory s) e in
+        let q : qs ≡ rs = book-records commands text qs b in
+        let e₂ : askPaths tried rs (length old) path directory s ≡ given a = subst (λ (x : List Parsed). askPaths tried x (length old) path directory s ≡ given a) q e₁ in
+        let (p, e₃, e₄) = reached-by path (askedFor tried path directory s) (pathsFrom tried directory s (length old)) a e₂ in
+        let (c, means, loaded, i) = from-path path p e₃ in
+        let f : a ≡ listedReply (pathsBy tried directory s (p .site .config)) = fit-given (length old) (listedReply (pathsBy tried directory s (p .site .config))) a e₄ in
+        let g : a ≡ listedReply (pathsBy tried directory s ((flatSite rs c) .config)) = f ∙ ap (λ x. listedReply (pathsBy tried directory s (x .config))) (i .flattened) in
+        let m = same outcome a r e (t .numbers) in
+        let w : r .bytes ≡ length (laid (pathsBy tried directory s ((flatSite rs c) .config))) = m .bytes ∙ ap (λ (x : Reply). length (x .bytes)) g in
+        record {
+          config = c;
+          means = means;
+          loads = loads c p loaded i;
+          count = m .first ∙ ap (λ (x : Reply). x .first) g;
+          written = w;
+          output =
+              left outcome a old new e (t .bytes)
+              ∙ ap (λ (x : Reply). x .bytes ++ drop (length (x .bytes)) old) g
+              ∙ ap (λ (k : ℕ). laid (pathsBy tried directory s ((flatSite rs c) .config)) ++ drop k old) (sym w);
+        }
+
+  module _ (path s : Text) (r : Numbers) (old new : Text) where
+    pub candidates-inherit : Told (tsconfigCandidates commands text path s (length old)) r old new → r .number ≡ 0 → CandidatesInherit rs path s r old new
+    candidates-inherit t z =
+        let e = candidates-paths commands text path path s (length old) in
+        paths-inherit false path path s r old new (subst (λ (o : Outcome). Told o r old new) e t) (subst Numbered e (candidates-numbered commands text path s (length old))) z
+
+    pub tries-inherit : (directory : Text) → Told (tsconfigTries commands text path directory s (length old)) r old new → r .number ≡ 0 → TriesInherit rs path directory s r old new
+    tries-inherit directory t z =
+        let e = tries-paths commands text path directory s (length old) in
+        paths-inherit true path directory s r old new (subst (λ (o : Outcome). Told o r old new) e t) (subst Numbered e (tries-numbered commands text path directory s (length old))) z
+
+  -- Where the specifier does not start with a dot and the directory is outside node_modules, the tries are the candidates and then the baseUrl path, if that is not among them
+  pub one-story :
+      (path directory s : Text) → insideNodeModules directory ≡ false → starts dot s ≡ false →
+      (r : Numbers) (before new : Text) → Told (tsconfigCandidates commands text path s (length before)) r before new → r .number ≡ 0 →
+      (q : Numbers) (old tried : Text) → Told (tsconfigTries commands text path directory s (length old)) q old tried → q .number ≡ 0 →
+      OneStory rs path s r new q old tried
+  one-story path directory s outside plain r before new t z q old tried u y =
+      let c = candidates-inherit path s r before new t z in
+      let d = tries-inherit path s q old tried directory u y in
+      let k : d .config ≡ c .config = same-some (sym (d .means) ∙ c .means) in
+      let flat : ℕ → Settings = λ i. (flatSite rs i) .config in
+      let e : tries (flat (d .config)) directory s ≡ candidates (flat (c .config)) s ++ flatAfter rs (c .config) s =
+      ap (λ (i : ℕ). tries (flat i) directory s) k ∙ candidates-lead (flat (c .config)) directory s outside plain in
       record {
-        config = c;
-        means = means;
-        loads = loads c p loaded i;
-        count = m .first ∙ ap (λ (x : Reply). x .first) g;
-        written = w;
+        config = c .config;
+        means = c .means;
+        count = d .count ∙ ap length e ∙ length-append (candidates (flat (c .config)) s) (flatAfter rs (c .config) s) ∙ ap (λ (n : ℕ). n + length (flatAfter rs (c .config) s)) (sym (c .count));
         output =
-            left o a old new e (t .bytes)
-            ∙ ap (λ (x : Reply). x .bytes ++ drop (length (x .bytes)) old) g
-            ∙ ap (λ (k : ℕ). laid (flatCandidates rs c s) ++ drop k old) (sym w);
+            d .output
+            ∙ ap (λ (ts : List Text). laid ts ++ drop (q .bytes) old) e
+            ∙ ap (λ (x : Text). x ++ drop (q .bytes) old) (laid-append (candidates (flat (c .config)) s) (flatAfter rs (c .config) s))
+            ∙ append-assoc (laid (candidates (flat (c .config)) s)) (laid (flatAfter rs (c .config) s)) (drop (q .bytes) old)
+            ∙ ap (λ (x : Text). x ++ (laid (flatAfter rs (c .config) s) ++ drop (q .bytes) old)) (sym (written-first new (r .bytes) (laid (candidates (flat (c .config)) s)) (drop (r .bytes) before) (c .written) (c .output)));
       }
 
   -- What tsconfig_owner promises

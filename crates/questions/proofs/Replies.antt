@@ -1,7 +1,7 @@
 -- The ways out of the entries. Assumes nothing.
 use mathlib.Core.Path.{_≡_, refl, sym, ap, ap₂, subst, _∙_}
 use mathlib.Core.List.{List, [], _∷_, _++_, map}
-use mathlib.Core.Bool.{Bool, true, false, _&&_, cond}
+use mathlib.Core.Bool.{Bool, true, false, true≢false, _&&_, cond}
 use mathlib.Core.Option.{Option, some, none}
 use Prim.Native.Nat.{ℕ, _+_, _≤_, _<_}
 use native.Mathlib.Omega.{arith}
@@ -20,8 +20,8 @@ use Rattle.tsconfig.specs.Parsed.{Parsed, parsed}
 use Rattle.tsconfig_resolver.specs.Find.{pathsOf}
 use Rattle.tsconfig_resolver.specs.Project.{Project, Owner, loadRecord, loadFound, loadPath, ownerOf}
 use Rattle.rows.specs.Records.{recordsOf, parsedOf}
-use Rattle.questions.specs.Questions.{Outcome, Reply, fit, listed, asked, book, build, candidatesOf, owner, ownerReply, tsconfigBuild, tsconfigOwner, tsconfigCandidates, returned, output}
-use Rattle.questions.specs.Replies.{numbersOf, Told, buildReply, buildOf, candidatesFrom, Ready, OpenedBy, Opens}
+use Rattle.questions.specs.Questions.{Outcome, Reply, fit, listed, asked, book, build, candidatesOf, owner, ownerReply, tsconfigBuild, tsconfigOwner, tsconfigCandidates, tsconfigTries, triesOf, returned, output}
+use Rattle.questions.specs.Replies.{numbersOf, Told, buildReply, buildOf, pathsBy, askedFor, askPaths, tsconfigPaths, Ready, OpenedBy, Opens}
 use Rattle.questions.specs.declared.Opening.{Opening}
 use Rattle.questions.specs.declared.Opening.the-variants as opening
 use Rattle.text.specs.declared.Found.{Found}
@@ -29,7 +29,11 @@ use Rattle.path.specs.Places.{Holds}
 use Rattle.book.specs.Index.{AcceptedAs, JudgedAs}
 use Rattle.book.specs.declared.Judged.{Judged}
 use Rattle.book.specs.declared.Judged.the-variants as judged
+use Rattle.tsconfig.specs.Build.{Settings}
+use Rattle.tsconfig.specs.Mapping.{candidates, tries}
 use Rattle.tsconfig.specs.Listing.{listing}
+use Rattle.mapping.specs.declared.Listed.{Listed}
+use Rattle.mapping.specs.Targets.{Lists}
 use Rattle.tsconfig.specs.Laid.{laid}
 use Rattle.tsconfig_resolver.specs.Find.{recordAt}
 use Rattle.rows.specs.Rows.{numberOf, siteOf, Row}
@@ -127,9 +131,8 @@ module _ (commands text : Text) where
     unfolding tsconfigOwner
     owner-refused path = rw (book-refused k p e) refl
 
-    pub candidates-refused : (path specifier : Text) (room : ℕ) → tsconfigCandidates commands text path specifier room ≡ refused k p
-    unfolding tsconfigCandidates
-    candidates-refused path specifier room = rw (book-refused k p e) refl
+    pub paths-refused : (tried : Bool) (path directory specifier : Text) (room : ℕ) → tsconfigPaths tried commands text path directory specifier room ≡ refused k p
+    paths-refused tried path directory specifier room = rw (book-refused k p e) refl
 
   module _ (rs : List (List Cmd)) (e : verdict commands text ≡ given rs) where
     pub build-accepted : (path : Text) (room : ℕ) → tsconfigBuild commands text path room ≡ build (recordsOf commands text) room path
@@ -140,19 +143,24 @@ module _ (commands text : Text) where
     unfolding tsconfigOwner
     owner-accepted path = rw (book-given rs e) refl
 
-    pub candidates-accepted : (path specifier : Text) (room : ℕ) → tsconfigCandidates commands text path specifier room ≡ candidatesOf (recordsOf commands text) room path specifier
-    unfolding tsconfigCandidates
-    candidates-accepted path specifier room = rw (book-given rs e) refl
+    pub paths-accepted : (tried : Bool) (path directory specifier : Text) (room : ℕ) →
+        tsconfigPaths tried commands text path directory specifier room ≡ askPaths tried (recordsOf commands text) room path directory specifier
+    paths-accepted tried path directory specifier room = rw (book-given rs e) refl
+
+  -- the two questions as one
+  pub candidates-paths : (path directory specifier : Text) (room : ℕ) → tsconfigCandidates commands text path specifier room ≡ tsconfigPaths false commands text path directory specifier room
+  unfolding tsconfigCandidates candidatesOf
+  candidates-paths path directory specifier room = refl
+
+  pub tries-paths : (path directory specifier : Text) (room : ℕ) → tsconfigTries commands text path directory specifier room ≡ tsconfigPaths true commands text path directory specifier room
+  unfolding tsconfigTries triesOf
+  tries-paths path directory specifier room = refl
 
 -- The definitions as such steps
 
 pub build-steps : (rs : List Parsed) (room : ℕ) (path : Text) → build rs room path ≡ asked (askedPath path) (loadPath rs path >>= buildOf rs room)
 unfolding build
 build-steps rs room path = refl
-
-pub candidates-steps : (rs : List Parsed) (room : ℕ) (path s : Text) → candidatesOf rs room path s ≡ asked (askedPath path && stringRule s) (loadPath rs path >>= candidatesFrom s room)
-unfolding candidatesOf
-candidates-steps rs room path s = refl
 
 -- A record that is opened
 
@@ -239,21 +247,51 @@ module _ (commands text : Text) (begins starts lens : List ℕ) (r : Judged) (w 
   pub judged-yes : (n : ℕ) → r ≡ judged.Yes n → AcceptedAs commands text begins starts lens n
   judged-yes n e = subst (JudgedAs commands text begins starts lens) e w
 
--- the path and the specifier
-pub both-true : (a b : Bool) → a ≡ true → b ≡ true → a && b ≡ true
-both-true a b e f = rw (e, f) refl
+-- The paths of C or T
 
-pub first-false : (a b : Bool) → a ≡ false → a && b ≡ false
-first-false a b e = rw e refl
+module _ (tried : Bool) (directory specifier : Text) (c : Settings) (o : Text) (at : ℕ) (u : Text) (l : Listed) where
+  pub paths-tried : tried ≡ true → Lists (tries c directory specifier) o at u l → Lists (pathsBy tried directory specifier c) o at u l
+  paths-tried e y = rw e y
 
-pub second-false : (a b : Bool) → b ≡ false → a && b ≡ false
-second-false true b e = e
-second-false false b e = refl
+  pub paths-mapped : tried ≡ false → Lists (candidates c specifier) o at u l → Lists (pathsBy tried directory specifier c) o at u l
+  paths-mapped e y = rw e y
 
-pub specifier-short : (s : Text) (r : Bool) → r ≡ stringRule s → r ≡ true → length s ≤ 512
-unfolding stringRule
-specifier-short s r e y = leb-true (length s) 512 (first-true (leb (length s) 512) _ (sym e ∙ y))
-  where
-    first-true : (a b : Bool) → a && b ≡ true → a ≡ true
-    first-true true b h = refl
-    first-true false b h = h
+-- Whether C or T may be asked
+
+module _ (tried : Bool) (path directory specifier : Text) where
+  module _ (p : Bool) (e : p ≡ askedPath path) where
+    pub path-not : p ≡ false → false ≡ askedFor tried path directory specifier
+    path-not n = rw (← e, n) refl
+
+    module _ (y : p ≡ true) (s : Bool) (g : s ≡ stringRule specifier) where
+      pub without-directory : tried ≡ false → s ≡ askedFor tried path directory specifier
+      without-directory n = rw (← e, y, n) g
+
+      module _ (t : tried ≡ true) (d : Bool) (h : d ≡ askedPath directory) where
+        pub with-directory : d ≡ true → s ≡ askedFor tried path directory specifier
+        with-directory z = rw (← e, y, t, ← h, z) g
+
+    pub directory-not : p ≡ true → tried ≡ true → (d : Bool) → d ≡ askedPath directory → d ≡ false → false ≡ askedFor tried path directory specifier
+    directory-not y t d h n = rw (← e, y, t, ← h, n) refl
+
+  first-true : (a b : Bool) → a && b ≡ true → a ≡ true
+  first-true true b h = refl
+  first-true false b h = h
+
+  second-true : (a b : Bool) → a && b ≡ true → b ≡ true
+  second-true true b h = h
+  second-true false b h = absurd (true≢false (sym h))
+
+  module _ (r : Bool) (e : r ≡ askedFor tried path directory specifier) (y : r ≡ true) where
+    rest : cond tried (askedPath directory) true && stringRule specifier ≡ true
+    rest = second-true (askedPath path) _ (sym e ∙ y)
+
+    pub specifier-short : length specifier ≤ 512
+    unfolding stringRule
+    specifier-short = leb-true (length specifier) 512 (first-true (leb (length specifier) 512) _ (second-true (cond tried (askedPath directory) true) (stringRule specifier) rest))
+
+    pub directory-short : tried ≡ true → length directory ≤ 512
+    unfolding askedPath stringRule
+    directory-short t =
+        let d : askedPath directory ≡ true = first-true (askedPath directory) (stringRule specifier) (rw t at rest) in
+        leb-true (length directory) 512 (first-true (leb (length directory) 512) _ (first-true (stringRule directory) _ d))

@@ -4,15 +4,16 @@ use mathlib.Core.Path.{_≡_}
 use mathlib.Core.List.{List, [], _∷_, _++_}
 use mathlib.Core.Bool.{true, false}
 use mathlib.Core.Option.{Option, some, none}
-use Prim.Native.Nat.{ℕ, _<_}
-use lib.ListN.{length, drop}
+use Prim.Native.Nat.{ℕ, _+_, _<_}
+use lib.ListN.{length, take, drop}
 use Rattle.text.specs.Bytes.{Text, tsconfigJson}
 use Rattle.path.specs.Path.{pushOf}
 use Rattle.book.specs.Answer.{given}
 use Rattle.book.specs.Find.{find, locate}
 use Rattle.tsconfig.specs.Claims.{Site, claimsOwnership, solution}
 use Rattle.tsconfig.specs.Listing.{listing}
-use Rattle.tsconfig.specs.Mapping.{candidates}
+use Rattle.tsconfig.specs.Build.{Settings}
+use Rattle.tsconfig.specs.Mapping.{candidates, tries, afterCandidates}
 use Rattle.tsconfig.specs.Parsed.{Parsed}
 use Rattle.tsconfig_resolver.specs.Line.{line, entriesOf}
 use Rattle.tsconfig_resolver.specs.Find.{recordAt, pathsOf, seen}
@@ -33,9 +34,9 @@ module _ (rs : List Parsed) where
   abbrev pub flatListing : ℕ → Text
   flatListing c = listing (recordAt rs c .references) ((flatSite rs c) .config)
 
-  -- the candidates of the flat config
-  abbrev pub flatCandidates : ℕ → Text → List Text
-  flatCandidates c s = candidates ((flatSite rs c) .config) s
+  -- what the tries have after the candidates, by the flat config
+  abbrev pub flatAfter : ℕ → Text → List Text
+  flatAfter c s = afterCandidates ((flatSite rs c) .config) s
 
   -- "the flat config yields .. the build's whole output", and the merges counted
   pub record BuildInherits (path : Text) (r : Numbers) (old new : Text) : Type 1 where
@@ -45,14 +46,30 @@ module _ (rs : List Parsed) where
     pub written : r .bytes ≡ length (flatListing (r .first))
     pub output : new ≡ flatListing (r .first) ++ drop (r .bytes) old
 
-  -- "whatever specifier is asked, the candidates are the flat one's, in order"
-  pub record CandidatesInherit (path s : Text) (r : Numbers) (old new : Text) : Type 1 where
+  -- the paths that are written are those that the flat config gives
+  pub record PathsInherit (path : Text) (paths : Settings → List Text) (r : Numbers) (old new : Text) : Type 1 where
     pub config : ℕ
     pub means : locate (pathsOf rs) path ≡ some config
     pub loads : Loads config
-    pub count : r .first ≡ length (flatCandidates config s)
-    pub written : r .bytes ≡ length (laid (flatCandidates config s))
-    pub output : new ≡ laid (flatCandidates config s) ++ drop (r .bytes) old
+    pub count : r .first ≡ length (paths ((flatSite rs config) .config))
+    pub written : r .bytes ≡ length (laid (paths ((flatSite rs config) .config)))
+    pub output : new ≡ laid (paths ((flatSite rs config) .config)) ++ drop (r .bytes) old
+
+  -- "whatever specifier is asked, the candidates are the flat one's, in order"
+  abbrev pub CandidatesInherit : Text → Text → Numbers → Text → Text → Type 1
+  CandidatesInherit path s r old new = PathsInherit path (λ c. candidates c s) r old new
+
+  -- and so are the tries
+  abbrev pub TriesInherit : Text → Text → Text → Numbers → Text → Text → Type 1
+  TriesInherit path directory s r old new = PathsInherit path (λ c. tries c directory s) r old new
+
+  -- Candidates gave the numbers r and left `new` in its output, tries gave q and left `tried` where `old` was: the tries begin with the candidates, and
+  -- what follows is the baseUrl path or nothing.
+  pub record OneStory (path s : Text) (r : Numbers) (new : Text) (q : Numbers) (old tried : Text) : Type 1 where
+    pub config : ℕ
+    pub means : locate (pathsOf rs) path ≡ some config
+    pub count : q .first ≡ r .first + length (flatAfter config s)
+    pub output : tried ≡ take (r .bytes) new ++ (laid (flatAfter config s) ++ drop (q .bytes) old)
 
   -- "whatever path is asked, the loaded config claims it exactly when the flat one does": the config found does, by itself or by its references
   pub record OwnerInherits (path : Text) (found solved : ℕ) : Type 1 where

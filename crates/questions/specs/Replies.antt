@@ -1,19 +1,22 @@
 -- What the entries answer, in the words of the definitions.
 use mathlib.Core.Path.{_≡_}
 use mathlib.Core.List.{List, [], _∷_}
+use mathlib.Core.Bool.{Bool, true, _&&_, cond}
 use Prim.Native.Nat.{ℕ}
 use lib.ListN.{length}
 use Rattle.text.specs.Bytes.{Text}
 use Rattle.path.specs.Places.{Holds}
+use Rattle.strings.specs.Strings.{askedPath, stringRule}
 use Rattle.book.specs.Answer.{refused, given, _>>=_}
 use Rattle.rows.specs.Rows.{Row, siteOf}
 use Rattle.tsconfig.specs.Parsed.{Parsed}
 use Rattle.tsconfig.specs.Claims.{Site}
 use Rattle.tsconfig.specs.Listing.{listing}
-use Rattle.tsconfig.specs.Mapping.{candidates}
+use Rattle.tsconfig.specs.Build.{Settings}
+use Rattle.tsconfig.specs.Mapping.{candidates, tries}
 use Rattle.tsconfig_resolver.specs.Find.{recordAt}
-use Rattle.tsconfig_resolver.specs.Project.{Project, loadRecord}
-use Rattle.questions.specs.Questions.{Outcome, Reply, fit, listed, returned, output}
+use Rattle.tsconfig_resolver.specs.Project.{Project, loadRecord, loadPath}
+use Rattle.questions.specs.Questions.{Outcome, Reply, fit, asked, listed, book, returned, output}
 use Rattle.questions.specs.declared.Numbers.{Numbers}
 use Rattle.questions.specs.declared.Opening.{Opening}
 use Rattle.questions.specs.declared.Opening.the-variants as opening
@@ -39,9 +42,25 @@ buildOf rs room p = fit room (buildReply rs (p .site) (p .merges))
 abbrev pub loadedThen : List Parsed → ℕ → (Project → Outcome) → Outcome
 loadedThen rs c then = loadRecord rs c >>= then
 
--- what candidates makes of a loaded config
-abbrev pub candidatesFrom : Text → ℕ → Project → Outcome
-candidatesFrom specifier room p = listed room (candidates (p .site .config) specifier)
+-- the paths that are asked for: the tries from a directory, or the candidates
+abbrev pub pathsBy : Bool → Text → Text → Settings → List Text
+pathsBy tried directory specifier c = cond tried (tries c directory specifier) (candidates c specifier)
+
+-- what they are of a loaded config
+abbrev pub pathsFrom : Bool → Text → Text → ℕ → Project → Outcome
+pathsFrom tried directory specifier room p = listed room (pathsBy tried directory specifier (p .site .config))
+
+-- whether they may be asked for; the directory is looked at for tries alone
+abbrev pub askedFor : Bool → Text → Text → Text → Bool
+askedFor tried path directory specifier = askedPath path && (cond tried (askedPath directory) true && stringRule specifier)
+
+-- the questions C and T
+abbrev pub askPaths : Bool → List Parsed → ℕ → Text → Text → Text → Outcome
+askPaths tried rs room path directory specifier = asked (askedFor tried path directory specifier) (loadPath rs path >>= pathsFrom tried directory specifier room)
+
+-- from the lent bytes on
+abbrev pub tsconfigPaths : Bool → Text → Text → Text → Text → Text → ℕ → Outcome
+tsconfigPaths tried commands text path directory specifier room = book commands text >>= λ rs. askPaths tried rs room path directory specifier
 
 -- a record that is loaded, by its row, with the built base of its config and the merges made
 pub record Ready (rs : List Parsed) (c : ℕ) (row base : List ℕ) (m len : ℕ) : Type 0 where

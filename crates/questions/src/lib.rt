@@ -4,6 +4,7 @@ use book::check_tables;
 use listing::put_listing;
 use load::Whole;
 use load::load_record;
+use mapping::Listed;
 use mapping::put_candidates;
 use owner::Owned;
 use owner::find_owner;
@@ -14,16 +15,19 @@ use strings::is_asked_path;
 use strings::is_string;
 use text::Found;
 use text::upto;
+use tries::put_tries;
 ghost use mathlib.Core.Path.{_≡_};
 ghost use mathlib.Core.List.{[], _∷_};
-ghost use Rattle.tsconfig.specs.Mapping.{candidates as candidatesBy};
+ghost use mathlib.Core.Bool.{true};
+ghost use Rattle.mapping.specs.Asks.{configAt, Asks};
+ghost use Rattle.mapping.specs.Targets.{Lists};
 ghost use Prim.Native.Nat.{_<_, _≤_};
 ghost use lib.ListN.{length};
 ghost use Rattle.book.specs.Answer.{refused};
 ghost use Rattle.rows.specs.Rows.{Row, siteOf};
 ghost use Rattle.rows.specs.Records.{Records, Paths, recordsOf};
-ghost use Rattle.questions.specs.Questions.{fit, returned, build, owner, candidatesOf, listed, tsconfigBuild, tsconfigOwner, tsconfigCandidates};
-ghost use Rattle.questions.specs.Replies.{numbersOf, Told, buildReply, buildOf, candidatesFrom, loadedThen, Opens};
+ghost use Rattle.questions.specs.Questions.{fit, returned, build, owner, listed, tsconfigBuild, tsconfigOwner, tsconfigCandidates, tsconfigTries};
+ghost use Rattle.questions.specs.Replies.{numbersOf, Told, buildReply, buildOf, pathsBy, pathsFrom, askPaths, askedFor, tsconfigPaths, loadedThen, Opens};
 
 // What stands for no record.
 const NOBODY: usize = 65535;
@@ -201,26 +205,82 @@ pub extern "C" fn tsconfig_build(
     }
 }
 
-// The candidates of a row's config, where they fit the output. They are counted over an output of no room first.
-fn write_candidates(
+// The paths that are asked for: the tries from the directory where `tried` is said, else the candidates.
+fn put_paths(
+    tried: bool,
     commands: &[u8],
     text: &[u8],
     begins: &[usize],
     row: &[u8],
     base: &[u8],
+    directory: &[u8],
+    specifier: &[u8],
+    out: &mut [u8],
+    at: usize,
+) -> Listed
+    requires { ⌜ Asks (now commands) (now text) (now begins) (now row) (now base) (now specifier) at × (tried ≡ true → length (now directory) ≤ 512) ⌝ }
+    ensures { λ r. ⌜ Lists (pathsBy tried (now (directory .entry)) (now (specifier .entry)) (configAt (now (commands .entry)) (now (text .entry)) (now (row .entry)))) (now (out .entry)) at (now (out .exit)) r ⌝ }
+{
+    if tried {
+        return put_tries(
+            commands,
+            text,
+            begins,
+            row,
+            base,
+            directory,
+            specifier,
+            out,
+            at,
+        );
+    }
+    put_candidates(commands, text, begins, row, base, specifier, out, at)
+}
+
+// The paths of a row's config, where they fit the output. They are counted over an output of no room first.
+fn write_paths(
+    tried: bool,
+    commands: &[u8],
+    text: &[u8],
+    begins: &[usize],
+    row: &[u8],
+    base: &[u8],
+    directory: &[u8],
     specifier: &[u8],
     none: &mut [u8],
     out: &mut [u8],
 ) -> Numbers
-    requires { ⌜ (length (now none) ≡ 0) × (Records (now commands) (now text) (now begins) × (Row (recordsOf (now commands) (now text)) (now row) × ((now base ≡ (siteOf (recordsOf (now commands) (now text)) (now row)) .config .base) × ((length (now base) ≤ 1600) × (length (now specifier) ≤ 512))))) ⌝ }
-    ensures { λ r. ⌜ Told (listed (length (now (out .entry))) (candidatesBy ((siteOf (recordsOf (now (commands .entry)) (now (text .entry))) (now (row .entry))) .config) (now (specifier .entry)))) r (now (out .entry)) (now (out .exit)) ⌝ }
+    requires { ⌜ (length (now none) ≡ 0) × (Asks (now commands) (now text) (now begins) (now row) (now base) (now specifier) 0 × (tried ≡ true → length (now directory) ≤ 512)) ⌝ }
+    ensures { λ r. ⌜ Told (listed (length (now (out .entry))) (pathsBy tried (now (directory .entry)) (now (specifier .entry)) (configAt (now (commands .entry)) (now (text .entry)) (now (row .entry))))) r (now (out .entry)) (now (out .exit)) ⌝ }
 {
-    let counted = put_candidates(commands, text, begins, row, base, specifier, none, 0);
+    let counted = put_paths(
+        tried,
+        commands,
+        text,
+        begins,
+        row,
+        base,
+        directory,
+        specifier,
+        none,
+        0,
+    );
     let need = counted.at;
     if out.len() < need {
         return refuse(13, need);
     }
-    let wrote = put_candidates(commands, text, begins, row, base, specifier, out, 0);
+    let wrote = put_paths(
+        tried,
+        commands,
+        text,
+        begins,
+        row,
+        base,
+        directory,
+        specifier,
+        out,
+        0,
+    );
     let count = wrote.count;
     let bytes = wrote.at;
     Numbers {
@@ -232,8 +292,9 @@ fn write_candidates(
     }
 }
 
-// What candidates makes of the record c.
-fn candidates_record(
+// The paths of the record c.
+fn paths_record(
+    tried: bool,
     commands: &[u8],
     text: &[u8],
     begins: &[usize],
@@ -241,11 +302,12 @@ fn candidates_record(
     lens: &[usize],
     n: usize,
     c: usize,
+    directory: &[u8],
     specifier: &[u8],
     out: &mut [u8],
 ) -> Numbers
-    requires { ⌜ (Records (now commands) (now text) (now begins) × (Paths (now commands) (now text) (now starts) (now lens) n × (c < n))) × (length (now specifier) ≤ 512) ⌝ }
-    ensures { λ r. ⌜ Told (loadedThen (recordsOf (now (commands .entry)) (now (text .entry))) c (candidatesFrom (now (specifier .entry)) (length (now (out .entry))))) r (now (out .entry)) (now (out .exit)) ⌝ }
+    requires { ⌜ (Records (now commands) (now text) (now begins) × (Paths (now commands) (now text) (now starts) (now lens) n × (c < n))) × ((length (now specifier) ≤ 512) × (tried ≡ true → length (now directory) ≤ 512)) ⌝ }
+    ensures { λ r. ⌜ Told (loadedThen (recordsOf (now (commands .entry)) (now (text .entry))) c (pathsFrom tried (now (directory .entry)) (now (specifier .entry)) (length (now (out .entry))))) r (now (out .entry)) (now (out .exit)) ⌝ }
 {
     let mut row = [255u8; 28];
     let mut base = [0u8; 1600];
@@ -264,12 +326,14 @@ fn candidates_record(
         Opening::Ready(_, len) => {
             let built = upto(&base, len);
             let mut none = [0u8; 0];
-            return write_candidates(
+            return write_paths(
+                tried,
                 commands,
                 text,
                 begins,
                 &row,
                 built,
+                directory,
                 specifier,
                 &mut none,
                 out,
@@ -278,8 +342,25 @@ fn candidates_record(
     }
 }
 
-// The question C over a checked book.
-fn candidates(
+// Whether the question may be asked. The directory is looked at for tries alone.
+fn is_asked(tried: bool, path: &[u8], directory: &[u8], specifier: &[u8]) -> bool
+    ensures { λ r. ⌜ r ≡ askedFor tried (now (path .entry)) (now (directory .entry)) (now (specifier .entry)) ⌝ }
+{
+    if !is_asked_path(path) {
+        return false;
+    }
+    if !tried {
+        return is_string(specifier);
+    }
+    if !is_asked_path(directory) {
+        return false;
+    }
+    is_string(specifier)
+}
+
+// The question C or T over a checked book.
+fn paths(
+    tried: bool,
     commands: &[u8],
     text: &[u8],
     begins: &[usize],
@@ -287,21 +368,20 @@ fn candidates(
     lens: &[usize],
     n: usize,
     path: &[u8],
+    directory: &[u8],
     specifier: &[u8],
     out: &mut [u8],
 ) -> Numbers
     requires { ⌜ Records (now commands) (now text) (now begins) × Paths (now commands) (now text) (now starts) (now lens) n ⌝ }
-    ensures { λ r. ⌜ Told (candidatesOf (recordsOf (now (commands .entry)) (now (text .entry))) (length (now (out .entry))) (now (path .entry)) (now (specifier .entry))) r (now (out .entry)) (now (out .exit)) ⌝ }
+    ensures { λ r. ⌜ Told (askPaths tried (recordsOf (now (commands .entry)) (now (text .entry))) (length (now (out .entry))) (now (path .entry)) (now (directory .entry)) (now (specifier .entry))) r (now (out .entry)) (now (out .exit)) ⌝ }
 {
-    if !is_asked_path(path) {
-        return refuse(7, 0);
-    }
-    if !is_string(specifier) {
+    if !is_asked(tried, path, directory, specifier) {
         return refuse(7, 0);
     }
     match locate(text, starts, lens, n, path) {
         Found::Nothing => return refuse(8, 65535),
-        Found::At(c) => return candidates_record(
+        Found::At(c) => return paths_record(
+            tried,
             commands,
             text,
             begins,
@@ -309,6 +389,40 @@ fn candidates(
             lens,
             n,
             c,
+            directory,
+            specifier,
+            out,
+        ),
+    }
+}
+
+// The question C or T.
+fn answer_paths(
+    tried: bool,
+    commands: &[u8],
+    text: &[u8],
+    path: &[u8],
+    directory: &[u8],
+    specifier: &[u8],
+    out: &mut [u8],
+) -> Numbers
+    ensures { λ r. ⌜ Told (tsconfigPaths tried (now (commands .entry)) (now (text .entry)) (now (path .entry)) (now (directory .entry)) (now (specifier .entry)) (length (now (out .entry)))) r (now (out .entry)) (now (out .exit)) ⌝ }
+{
+    let mut begins = [0usize; 64];
+    let mut starts = [0usize; 64];
+    let mut lens = [0usize; 64];
+    match check_tables(commands, text, &mut begins, &mut starts, &mut lens) {
+        Judged::No(k, p) => return refuse(k, p),
+        Judged::Yes(n) => return paths(
+            tried,
+            commands,
+            text,
+            &begins,
+            &starts,
+            &lens,
+            n,
+            path,
+            directory,
             specifier,
             out,
         ),
@@ -326,23 +440,22 @@ pub extern "C" fn tsconfig_candidates(
 ) -> Numbers
     ensures { λ r. ⌜ Told (tsconfigCandidates (now (commands .entry)) (now (text .entry)) (now (path .entry)) (now (specifier .entry)) (length (now (out .entry)))) r (now (out .entry)) (now (out .exit)) ⌝ }
 {
-    let mut begins = [0usize; 64];
-    let mut starts = [0usize; 64];
-    let mut lens = [0usize; 64];
-    match check_tables(commands, text, &mut begins, &mut starts, &mut lens) {
-        Judged::No(k, p) => return refuse(k, p),
-        Judged::Yes(n) => return candidates(
-            commands,
-            text,
-            &begins,
-            &starts,
-            &lens,
-            n,
-            path,
-            specifier,
-            out,
-        ),
-    }
+    answer_paths(false, commands, text, path, path, specifier, out)
+}
+
+// T: the paths that would be tried for a specifier from a directory, in the layout of candidates; how many there are.
+#[no_mangle]
+pub extern "C" fn tsconfig_tries(
+    commands: &[u8],
+    text: &[u8],
+    path: &[u8],
+    directory: &[u8],
+    specifier: &[u8],
+    out: &mut [u8],
+) -> Numbers
+    ensures { λ r. ⌜ Told (tsconfigTries (now (commands .entry)) (now (text .entry)) (now (path .entry)) (now (directory .entry)) (now (specifier .entry)) (length (now (out .entry)))) r (now (out .entry)) (now (out .exit)) ⌝ }
+{
+    answer_paths(true, commands, text, path, directory, specifier, out)
 }
 
 // The question O over a checked book.

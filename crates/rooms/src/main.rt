@@ -12,6 +12,7 @@ use asking::say_number;
 use questions::Numbers;
 use questions::tsconfig_build;
 use questions::tsconfig_candidates;
+use questions::tsconfig_tries;
 use text::Found;
 use text::from;
 use text::part_before;
@@ -48,12 +49,19 @@ fn is_kept(s: &[u8]) -> bool {
     true
 }
 
-// Asks a question that has an output: `B`, and each other line as `C`.
+// Asks a question that has an output: `B`, `T`, and each other line as `C`.
 fn ask(commands: &[u8], text: &[u8], line: &[u8], out: &mut [u8]) -> Numbers {
     let asked = fields(line);
     match kind_of(line) {
         Kind::Build => {
             return tsconfig_build(commands, text, asked, out);
+        }
+        Kind::Tries => {
+            let path = first_field(asked);
+            let rest = other_fields(asked);
+            let directory = first_field(rest);
+            let specifier = other_fields(rest);
+            return tsconfig_tries(commands, text, path, directory, specifier, out);
         }
         _ => {
             let path = first_field(asked);

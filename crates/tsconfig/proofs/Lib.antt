@@ -3,3 +3,4 @@ pub mod Flat
 pub mod Map
 pub mod Cases
 pub mod Style
+pub mod Tries

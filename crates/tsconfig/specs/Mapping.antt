@@ -110,3 +110,12 @@ unfoldable pub tries : Settings → Text → Text → List Text
 tries c dir s =
     cond (insideNodeModules dir) []
     (aliases c s ++ cond (starts dot s) (rootTries (normalizeWith dir s) (c .named rootDirs)) (fromBaseUrl c s (c .named baseUrl)))
+
+-- the second list, unless the first is empty
+unfoldable pub ifAny : List Text → List Text → List Text
+ifAny [] other = []
+ifAny (x ∷ xs) other = other
+
+-- what is tried after the candidates, where the specifier does not start with a dot: the baseUrl path, unless it is a candidate itself
+unfoldable pub afterCandidates : Settings → Text → List Text
+afterCandidates c s = ifAny (aliases c s) (fromBaseUrl c s (c .named baseUrl))

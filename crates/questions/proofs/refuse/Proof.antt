@@ -10,7 +10,7 @@ use Rattle.tsconfig.specs.Mapping.{candidates}
 use Rattle.rows.specs.Records.{recordsOf}
 use Rattle.rows.specs.Rows.{siteOf}
 use Rattle.rows.proofs.Books.{accepted, accepted-paths}
-use Rattle.questions.specs.Replies.{buildReply, buildOf, candidatesFrom}
+use Rattle.questions.specs.Replies.{buildReply, buildOf}
 use Rattle.questions.proofs.Replies.{refused-numbers}
 use native.Mathlib.Omega.{arith}
 use borrow.Author.Needs.{needs}

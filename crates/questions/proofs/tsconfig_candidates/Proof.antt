@@ -1,85 +1,21 @@
-use mathlib.Core.Path.{refl, sym, ap, subst, _∙_}
-use mathlib.Core.Option.{some, none}
 use lib.ListN.{length}
-use borrow.Author.Tests.{not-true, not-false}
-use Rattle.records.specs.Items.{pathTable, foundNumber}
-use Rattle.records.proofs.Paths.{locate-within}
-use Rattle.book.specs.Find.{locate}
-use Rattle.strings.specs.Strings.{askedPath, stringRule}
-use Rattle.tsconfig.specs.Mapping.{candidates}
-use Rattle.rows.specs.Records.{recordsOf}
-use Rattle.rows.specs.Rows.{siteOf}
-use Rattle.rows.proofs.Books.{accepted, accepted-paths}
-use Rattle.questions.specs.Replies.{buildReply, buildOf, candidatesFrom}
-use Rattle.questions.proofs.Replies.{judged-no, judged-yes, kept-told, told-as, candidates-refused, candidates-accepted}
+use Rattle.questions.proofs.Replies.{told-as, candidates-paths}
 use native.Mathlib.Omega.{arith}
-use borrow.Author.Needs.{needs}
 use borrow.Author.Needs.{needs}
 use Rattle.questions.proofs.tsconfig_candidates.Statement.{statement}
 use Rattle.questions.proofs.tsconfig_candidates.Tie as tie
 use Rattle.questions.proofs.tsconfig_candidates.Reads as reads
 use Rattle.questions.proofs.tsconfig_candidates.Lts as lts
-use Rattle.book.proofs.check_tables.Reads as check-tables-reads
-use Rattle.questions.proofs.candidates.Reads as candidates-reads
-use Rattle.questions.proofs.refuse.Reads as refuse-reads
+use Rattle.questions.proofs.answer_paths.Reads as answer-paths-reads
 
-slice-aggregate-check-tables : tie.Need-slice-aggregate-check-tables
-slice-aggregate-check-tables c = search needs
-
-slice-aggregate-check-tables-2 : tie.Need-slice-aggregate-check-tables-2
-slice-aggregate-check-tables-2 c = search needs
-
-slice-aggregate-check-tables-3 : tie.Need-slice-aggregate-check-tables-3
-slice-aggregate-check-tables-3 c = search needs
-
-check-tables-requires : tie.Need-check-tables-requires
-check-tables-requires c κs = (search needs, (search needs, search needs))
-
-enum-known-k : tie.Need-enum-known-k
-enum-known-k c = search needs
-
-refuse-requires : tie.Need-refuse-requires
-refuse-requires c κs = search needs
-
-returns : tie.Need-returns
-returns c = let a = c .before .before .before .before .before .before .before .before .before .before .before .before .before .before .before .before .args in kept-told _ _ _ _ _ (candidates-refused (a .commands .now) (a .text .now) _ _ (judged-no (a .commands .now) (a .text .now) _ _ _ _ (c .before .before .before .before .before .before .before .check-tables .ensures) _ _ (c .before .before .k .given .1)) (a .path .now) (a .specifier .now) (length (a .out .now))) (c .refuse .ensures)
-
-enum-known-n : tie.Need-enum-known-n
-enum-known-n c = search needs
-
-slice-aggregate-candidates : tie.Need-slice-aggregate-candidates
-slice-aggregate-candidates c = search needs
-
-slice-aggregate-candidates-2 : tie.Need-slice-aggregate-candidates-2
-slice-aggregate-candidates-2 c = search needs
-
-slice-aggregate-candidates-3 : tie.Need-slice-aggregate-candidates-3
-slice-aggregate-candidates-3 c = search needs
-
-candidates-requires : tie.Need-candidates-requires
-candidates-requires c κs = let a = c .before .before .before .before .before .before .before .before .before .before .before .before .before .before .before .before .before .before .before .args in let j = judged-yes (a .commands .now) (a .text .now) _ _ _ _ (c .before .before .before .before .before .before .before .before .before .before .check-tables .ensures) _ (c .before .before .before .before .before .n .given .1) in (accepted (a .commands .now) (a .text .now) _ _ _ _ j (search needs), accepted-paths (a .commands .now) (a .text .now) _ _ _ _ j (search needs) (search needs))
+answer-paths-requires : tie.Need-answer-paths-requires
+answer-paths-requires c κs = search needs
 
 same-length : tie.Need-same-length
 same-length c = search needs
 
-returns-2 : tie.Need-returns-2
-returns-2 c = let a = c .before .before .before .before .before .before .before .before .before .before .before .before .before .before .before .before .before .before .before .before .before .before .args in let j = judged-yes (a .commands .now) (a .text .now) _ _ _ _ (c .before .before .before .before .before .before .before .before .before .before .before .before .before .check-tables .ensures) _ (c .before .before .before .before .before .before .before .before .n .given .1) in told-as _ _ _ _ _ (candidates-accepted (a .commands .now) (a .text .now) _ (j .accepted) (a .path .now) (a .specifier .now) (length (a .out .now))) (c .before .before .candidates .ensures)
+returns : tie.Need-returns
+returns c = told-as _ _ _ _ _ (candidates-paths (c .before .before .before .before .before .before .before .before .before .args .commands .now) (c .before .before .before .before .before .before .before .before .before .args .text .now) (c .before .before .before .before .before .before .before .before .before .args .path .now) (c .before .before .before .before .before .before .before .before .before .args .path .now) (c .before .before .before .before .before .before .before .before .before .args .specifier .now) (length (c .before .before .before .before .before .before .before .before .before .args .out .now))) (c .before .before .answer-paths .ensures)
 
 pub tsconfig-candidates-spec : {M : Type 1} → statement M
-tsconfig-candidates-spec =
-    tie.close
-    (tie.spec
-    slice-aggregate-check-tables
-    slice-aggregate-check-tables-2
-    slice-aggregate-check-tables-3
-    check-tables-requires
-    enum-known-k
-    refuse-requires
-    returns
-    enum-known-n
-    slice-aggregate-candidates
-    slice-aggregate-candidates-2
-    slice-aggregate-candidates-3
-    candidates-requires
-    same-length
-    returns-2)
+tsconfig-candidates-spec = tie.close (tie.spec answer-paths-requires same-length returns)

@@ -1,0 +1,21 @@
+use lib.ListN.{length}
+use Rattle.questions.proofs.Replies.{told-as, tries-paths}
+use native.Mathlib.Omega.{arith}
+use borrow.Author.Needs.{needs}
+use Rattle.questions.proofs.tsconfig_tries.Statement.{statement}
+use Rattle.questions.proofs.tsconfig_tries.Tie as tie
+use Rattle.questions.proofs.tsconfig_tries.Reads as reads
+use Rattle.questions.proofs.tsconfig_tries.Lts as lts
+use Rattle.questions.proofs.answer_paths.Reads as answer-paths-reads
+
+answer-paths-requires : tie.Need-answer-paths-requires
+answer-paths-requires c κs = search needs
+
+same-length : tie.Need-same-length
+same-length c = search needs
+
+returns : tie.Need-returns
+returns c = told-as _ _ _ _ _ (tries-paths (c .before .before .before .before .before .before .before .before .before .before .args .commands .now) (c .before .before .before .before .before .before .before .before .before .before .args .text .now) (c .before .before .before .before .before .before .before .before .before .before .args .path .now) (c .before .before .before .before .before .before .before .before .before .before .args .directory .now) (c .before .before .before .before .before .before .before .before .before .before .args .specifier .now) (length (c .before .before .before .before .before .before .before .before .before .before .args .out .now))) (c .before .before .answer-paths .ensures)
+
+pub tsconfig-tries-spec : {M : Type 1} → statement M
+tsconfig-tries-spec = tie.close (tie.spec answer-paths-requires same-length returns)

@@ -1,0 +1,4 @@
+-- Laws of the definitions of specs/.
+pub mod Roots
+pub mod Others
+pub mod Tries
