@@ -78,9 +78,12 @@ pub enum Layout {
 }
 
 impl Layout {
-    pub fn pick(random: &mut Random, records: usize) -> Self {
+    /// Strings are shared where the text would grow too long otherwise.
+    pub fn pick(random: &mut Random, commands: &[Command]) -> Self {
+        let strings = commands.iter().filter_map(|command| command.string.as_ref());
+        let length: usize = strings.map(Vec::len).sum();
         match random.below(10) {
-            _ if records > 12 => Self::Shared,
+            _ if length > 50_000 => Self::Shared,
             0..=5 => Self::EndToEnd,
             6..=7 => Self::Shared,
             _ => Self::Spread,

@@ -216,12 +216,16 @@ fn emptied(random: &mut Random, record: &mut Record) {
 fn filled(random: &mut Random, records: &mut [Record]) {
     let at = random.below(records.len());
     let record = &mut records[at];
-    match random.below(6) {
+    match random.below(7) {
         0 => record.files = Some((0..64).map(|number| format!("f{number}.ts")).collect()),
         1 => record.include = Some((0..64).map(|number| format!("s{number}/*")).collect()),
         2 => record.exclude = Some((0..64).map(|number| format!("s{number}")).collect()),
         3 => record.paths = Some((0..32).map(|number| (format!("k{number}*"), vec!["*".to_string(); 8])).collect()),
-        4 => record.root_dirs = Some((0..8).map(|number| format!("r{number}")).collect()),
+        4 => {
+            let long = Some(vec![format!("{}/{}", "g".repeat(250), "h".repeat(261)); 64]);
+            (record.files, record.include, record.exclude) = (long.clone(), long.clone(), long);
+        }
+        5 => record.root_dirs = Some((0..8).map(|number| format!("r{number}")).collect()),
         _ => record.extends.resize(8, "./none".to_string()),
     }
 }

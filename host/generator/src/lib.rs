@@ -33,7 +33,7 @@ pub fn case(seed: u64, number: u64) -> Case {
     for record in &records {
         commands.extend(record.commands(&mut random, mixed));
     }
-    let layout = book::Layout::pick(&mut random, records.len());
+    let layout = book::Layout::pick(&mut random, &commands);
     let book = damage::written(&mut random, commands, layout);
     Case { book, questions }
 }
