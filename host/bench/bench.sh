@@ -2,9 +2,7 @@
 # bench.sh [ROUNDS]: the crate and the library on the same books, as tables. Needs valgrind and python3.
 set -e
 cd "$(dirname "$0")"
-if [ -z "$TSCONFIG_QUESTIONS_LIB" ] && [ ! -f ../../target/staticlib/libquestions.a ]; then
-    (cd ../.. && rt staticlib questions)
-fi
+../staticlib.sh
 books=$(mktemp -d)
 trap 'rm -rf "$books"' EXIT
 python3 ../questions_bench/books.py "$books" >"$books/sizes"

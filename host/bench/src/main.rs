@@ -35,7 +35,7 @@ fn instructions(function: &str, folder: &Path, book: &str, line: &Line) -> Resul
 fn with_commas(digits: &str) -> String {
     let mut out = String::new();
     for (at, digit) in digits.chars().enumerate() {
-        if at > 0 && (digits.len() - at) % 3 == 0 {
+        if at > 0 && (digits.len() - at).is_multiple_of(3) {
             out.push(',');
         }
         out.push(digit);

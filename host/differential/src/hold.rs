@@ -62,19 +62,19 @@ pub fn hold(
     book: &Bytes,
     question: &Question,
     room: Room,
-) -> Result<Outcome, Mismatch> {
+) -> Result<Outcome, Box<Mismatch>> {
     let need = judge.as_ref().map_or(4096, |outcome| outcome.output.len());
     let bytes = room.bytes(need);
     let judge = judge.as_ref().map(|outcome| outcome.within(bytes)).map_err(String::clone);
     let library = asker.ask(book, question, bytes);
     match (&judge, &library) {
         (Ok(judge), Ok(library)) if judge == library => Ok(judge.clone()),
-        _ => Err(Mismatch { judge, library }),
+        _ => Err(Box::new(Mismatch { judge, library })),
     }
 }
 
 /// The mismatch of one question about a book, if there is one.
 pub fn differs(asker: &mut Asker, book: &Bytes, question: &Question, room: Room) -> Option<Mismatch> {
     let judge = judged(&Book::new(&book.commands, &book.text), question);
-    hold(asker, &judge, book, question, room).err()
+    hold(asker, &judge, book, question, room).err().map(|mismatch| *mismatch)
 }

@@ -53,7 +53,7 @@ impl Run {
                 Ok(outcome) => self.tally.count(question, &outcome),
                 Err(mismatch) => {
                     let found = Found { book: case.book.clone(), question: question.clone(), room: *room };
-                    self.met(number, found, mismatch);
+                    self.met(number, found, *mismatch);
                 }
             }
         }
