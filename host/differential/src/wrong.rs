@@ -19,6 +19,8 @@ pub enum Wrong {
     NoSolution,
     /// The last root dir is looked at and the rest are skipped.
     LastRootDirOnly,
+    /// The place of 2 is one byte too far.
+    LatePlace,
     /// One byte more is written than the answer has.
     WritesBehind,
     /// 13 is answered one byte too late, with nothing written.
@@ -27,7 +29,7 @@ pub enum Wrong {
 
 type Ask = fn(&Bytes, &Question, &mut [u8]) -> Numbers;
 
-const ALL: [(&str, Wrong, &str); 9] = [
+const ALL: [(&str, Wrong, &str); 10] = [
     ("first-to-last", Wrong::FirstToLast, "BOCT"),
     ("last-parent-only", Wrong::LastParentOnly, "BOCT"),
     ("keys-with-targets-only", Wrong::KeysWithTargetsOnly, "CT"),
@@ -35,6 +37,7 @@ const ALL: [(&str, Wrong, &str); 9] = [
     ("files-by-text", Wrong::FilesByText, "O"),
     ("no-solution", Wrong::NoSolution, "O"),
     ("last-root-dir-only", Wrong::LastRootDirOnly, "T"),
+    ("late-place", Wrong::LatePlace, "BOCT"),
     ("writes-behind", Wrong::WritesBehind, "BCT"),
     ("late-thirteen", Wrong::LateThirteen, "BCT"),
 ];
@@ -80,6 +83,10 @@ impl Wrong {
                 let numbers = ask(book, question, &mut out[..room]);
                 out[numbers.bytes as usize] ^= u8::from(numbers.number == 0);
                 numbers
+            }
+            Self::LatePlace => {
+                let numbers = ask(book, question, &mut out[..room]);
+                if numbers.number == 2 { Numbers { place: numbers.place + 1, ..numbers } } else { numbers }
             }
             Self::LateThirteen => {
                 let numbers = ask(book, question, &mut out[..room]);
@@ -132,7 +139,7 @@ impl Wrong {
                 record.retain(|command| command.code != book::FILE || is_normal(command.string.as_deref().unwrap_or_default()))
             }
             Self::NoSolution => record.retain(|command| command.code != book::REFERENCE),
-            Self::WritesBehind | Self::LateThirteen => {}
+            Self::LatePlace | Self::WritesBehind | Self::LateThirteen => {}
         }
         record
     }
