@@ -7,7 +7,7 @@ use Prim.Native.Nat.{ℕ, zero, suc, _+_, _-_, _*_, _<_, _≤_}
 use native.Mathlib.Omega.{arith}
 use native.Mathlib.Numerals.{add-one}
 use lib.Dec.{eqb}
-use lib.ListN.{length, getD, replicate, drop-of-length-le, length-replicate}
+use lib.ListN.{length, getD, take, replicate, drop-of-length-le, length-replicate}
 use borrow.Author.Tests.{eq-eqb, ne-eqb, eqb-true, eqb-false}
 use Rattle.text.specs.Bytes.{Text}
 use Rattle.text.specs.Emit.{Emits}
@@ -43,7 +43,8 @@ use Rattle.load.specs.declared.Told.the-variants.{Refused, Done}
 use Rattle.load.specs.declared.Opening.{Opening}
 use Rattle.load.specs.declared.Opening.the-variants as opening
 use Rattle.load.proofs.Entries.{good-short, all-after, all-head, all-tail}
-use Rattle.load.proofs.Walks.{told-same, told-refused, told-done}
+use Rattle.load.proofs.Walks.{told-same, told-refused, told-done, walk-taken}
+use Rattle.load.proofs.Calls.{taken-long}
 
 pub nobody-on : onOf nobody ≡ (λ i. false)
 nobody-on = fun-ext go
@@ -76,12 +77,12 @@ module _ (rs : List Parsed) (c r : ℕ) where
           ∙ sym (ap₂ (λ (chain : ℕ → Bool) (l : List Entry). walk (load (seen rs) chain) r (reverse l) (configOf rs row) s) nobody-on (refer-ready .entries)
           ∙ ap (λ (x : Merged). walk (load (seen rs) (λ i. false)) r (reverse (seen rs .entries r)) x s) (refer-ready .config))
 
-      pub refer-walk : (table : List ℕ) (m : ℕ) (row₂ t : List ℕ) (w : Told) →
-          Tells rs nobody r (m + k + 8 * pending nobody table) (walks rs nobody r n codes k (configOf rs row) (stateOf rs table m)) row₂ t w →
+      pub refer-walk : (table : List ℕ) (m : ℕ) (short : List ℕ) → short ≡ take k codes → (row₂ t : List ℕ) (w : Told) →
+          Tells rs nobody r (m + k + 8 * pending nobody table) (walks rs nobody r n short k (configOf rs row) (stateOf rs table m)) row₂ t w →
           Tells rs nobody r (m + 8 + 8 * pending nobody table) (refer (seen rs) c r (stateOf rs table m)) row₂ t w
-      refer-walk table m row₂ t w q =
+      refer-walk table m short is row₂ t w q =
           told-same rs nobody r row₂ t (m + k + 8 * pending nobody table) (m + 8 + 8 * pending nobody table) _ _ w (sym (refer-walks (stateOf rs table m)))
-          (omega (arith, refer-ready .few)) q
+          (omega (arith, refer-ready .few)) (walk-taken rs nobody r n codes k (m + k + 8 * pending nobody table) (configOf rs row) (stateOf rs table m) row₂ t w short is q)
 
 -- a reference by its text
 module _ (rs : List Parsed) (c : ℕ) (s : Text) (table : List ℕ) (m : ℕ) (f : Found) (e : foundNumber f ≡ meant rs c s) where
@@ -231,7 +232,7 @@ blank-holder i = over 1792 (28 * i + 27)
 
 module _ (rs : List Parsed) where
   pub blank-table : Table rs (replicate 1792 255)
-  blank-table = record { long = length-replicate {A = ℕ} 1792 255; rows = λ i h. absurd (h (blank-holder i)) }
+  blank-table = record { long = length-replicate {A = ℕ} 1792 255; rows = λ i h. absurd (h (blank-holder i)); own = λ i h. absurd (h (blank-holder i)) }
 
   blank-state : stateOf rs (replicate 1792 255) 0 ≡ start
   unfolding stateOf
@@ -292,14 +293,14 @@ module _ (rs : List Parsed) where
 -- What the calls ask
 
 module _ (commands text : Text) (begins starts lens : List ℕ) (n : ℕ) where
-  pub refer-next : (t : List ℕ) (r : ℕ) (x : List ℕ) (m : ℕ) → ReferPre commands text begins starts lens n t r x m → (codes row : List ℕ) (k : ℕ) → Ready (recordsOf commands text) n r codes row k → WalkPre commands text begins starts lens n t nobody r codes k row m
-  refer-next t r x m p codes row k h = record {
+  pub refer-next : (t : List ℕ) (r : ℕ) (x : List ℕ) (m : ℕ) → ReferPre commands text begins starts lens n t r x m → (codes row : List ℕ) (k : ℕ) → Ready (recordsOf commands text) n r codes row k → (short : List ℕ) → short ≡ take k codes → WalkPre commands text begins starts lens n t nobody r short k row m
+  refer-next t r x m p codes row k h short e = record {
     book = p .book;
     table = p .table;
     chain = length-replicate {A = Bool} 64 false;
     inside = p .inside;
     left = h .few;
-    long = h .long;
+    long = taken-long codes k (h .few) (h .long) short e;
     row = h .row;
     own = h .own;
     few = omega (arith, p .few, h .few);

@@ -8,19 +8,20 @@ use native.Mathlib.Omega.{arith}
 use native.Mathlib.Numerals.{add-one}
 use lib.Dec.{eqb}
 use lib.ListN.{length, getD, set, take}
-use lib.Seq.{getD-set-same, getD-set-other, take-suc}
+use lib.Seq.{getD-set-same, getD-set-other, take-suc, take-take}
 use borrow.Author.Tests.{eqb-true, eqb-false, eq-eqb, ne-eqb, lt-ltb, le-ltb}
 use Rattle.path.proofs.Pieces.{by-test}
 use Rattle.book.specs.Answer.{refused, _>>=_, unless}
 use Rattle.tsconfig.specs.Config.{merge}
 use Rattle.tsconfig.specs.Parsed.{Parsed}
 use Rattle.tsconfig_resolver.specs.Line.{Entry, empty, bare, missing, leads, tally}
-use Rattle.tsconfig_resolver.specs.Load.{done, recall, add, put, counted, unread, fresh, walk, load}
+use Rattle.tsconfig_resolver.specs.Load.{done, recall, add, put, counted, unread, fresh, parent, walk, load}
 use Rattle.tsconfig_resolver.specs.Find.{seen}
 use Rattle.tsconfig_resolver.specs.Project.{Merged, Store}
 use Rattle.tsconfig_resolver.proofs.Tally.{tally-ext, tally-add}
 use Rattle.tsconfig_resolver.proofs.Fuel.{load-law, free-cons}
 use Rattle.rows.specs.Rows.{absent, numberOf, configOf, Row, rowAt}
+use Rattle.rows.proofs.Tables.{row-place}
 use Rattle.load.specs.Codes.{entryOf}
 use Rattle.load.specs.Loads.{onOf, holder, unloaded, stateOf, pending, Table, Gives, Went, ToldAs, Tells, walks, Ready, OpenedAs, Opens}
 use Rattle.load.specs.declared.Told.{Told}
@@ -92,10 +93,11 @@ module _ (rs : List Parsed) (t u row : List ℕ) (c : ℕ) (same : rowAt u c ≡
       go k true e = rw (eqb-true k c e, ne-eqb (holder u c) absent held, same) refl
       go k false e = rw (others k (eqb-false k c e), holders k (eqb-false k c e)) refl
 
-  pub table-put : length u ≡ 1792 → Row rs row → Table rs t → Table rs u
-  table-put l r h = record {
+  pub table-put : length u ≡ 1792 → Row rs row → numberOf row ≡ c → Table rs t → Table rs u
+  table-put l r o h = record {
     long = l;
     rows = λ i k. by-test (eqb i c) (λ t. rw (eqb-true i c t, same) r) (λ f. subst (Row rs) (sym (others i (eqb-false i c f))) (h .rows i (λ z. k (holders i (eqb-false i c f) ∙ z))));
+    own = λ i k. by-test (eqb i c) (λ t. rw (eqb-true i c t) (sym (row-place u c 27 (omega arith)) ∙ ap numberOf same ∙ o)) (λ f. holders i (eqb-false i c f) ∙ h .own i (λ z. k (holders i (eqb-false i c f) ∙ z)));
   }
 
 module _ (rs : List Parsed) (table : List ℕ) (m v : ℕ) where
@@ -132,16 +134,66 @@ last-first n codes j h =
     ap reverse (ap (map (entryOf n)) (take-suc codes j 0 h) ∙ map-append (entryOf n) (take j codes) (getD codes j 0 ∷ []))
     ∙ reverse-append (coded n codes j) (entryOf n (getD codes j 0) ∷ [])
 
--- The walk, branch by branch: v is the code that is read
+-- A parent, branch by branch: v is the code that is read
+
+module _ (rs : List Parsed) (on : List Bool) (c n v : ℕ) (table : List ℕ) (m : ℕ) where
+  -- the entry is known
+  brings : (e : Entry) → entryOf n v ≡ e → parent (load (seen rs) (onOf on)) c (entryOf n v) (stateOf rs table m) ≡ parent (load (seen rs) (onOf on)) c e (stateOf rs table m)
+  brings e h = ap (λ (e : Entry). parent (load (seen rs) (onOf on)) c e (stateOf rs table m)) h
+
+  module _ (out : n ≤ v) where
+    pub bring-missing : v ≡ 253 → parent (load (seen rs) (onOf on)) c (entryOf n v) (stateOf rs table m) ≡ refused 8 c
+    unfolding entryOf
+    bring-missing e = brings missing (rw (le-ltb v n out, e) refl)
+
+    pub bring-bare : v ≡ 254 → parent (load (seen rs) (onOf on)) c (entryOf n v) (stateOf rs table m) ≡ refused 12 c
+    unfolding entryOf
+    bring-bare e = brings bare (rw (le-ltb v n out, e) refl)
+
+    pub bring-empty : (v ≡ 253 → ⊥) → (v ≡ 254 → ⊥) → parent (load (seen rs) (onOf on)) c (entryOf n v) (stateOf rs table m) ≡ refused 11 c
+    unfolding entryOf
+    bring-empty e f = brings empty (rw (le-ltb v n out, ne-eqb v 253 e, ne-eqb v 254 f) refl)
+
+  module _ (lt : v < n) where
+    -- the entry leads to a record
+    leads-on : parent (load (seen rs) (onOf on)) c (entryOf n v) (stateOf rs table m) ≡ recall (stateOf rs table m .table v) (load (seen rs) (onOf on) v) (stateOf rs table m)
+    unfolding entryOf
+    leads-on = brings (leads v) (rw (lt-ltb v n lt) refl)
+
+    leads-to : (o : Option Merged) → stateOf rs table m .table v ≡ o → parent (load (seen rs) (onOf on)) c (entryOf n v) (stateOf rs table m) ≡ recall o (load (seen rs) (onOf on) v) (stateOf rs table m)
+    leads-to o e = leads-on ∙ ap (λ (o : Option Merged). recall o (load (seen rs) (onOf on) v) (stateOf rs table m)) e
+
+    pub bring-held : (holder table v ≡ absent → ⊥) → Table rs table → Tells rs on v (m + 8 * pending on table) (parent (load (seen rs) (onOf on)) c (entryOf n v) (stateOf rs table m)) (rowAt table v) table (Done m)
+    bring-held held t = record {
+      told = record {
+        answer = leads-to (some (configOf rs (rowAt table v))) (state-held rs table m v held);
+        row = t .rows v held;
+        own = row-place table v 27 (omega arith) ∙ t .own v held;
+        table = t;
+        few = omega arith;
+      };
+    }
+
+    pub bring-loaded : holder table v ≡ absent → (t : List ℕ) (u : Told) →
+        Tells rs on v (m + 8 * pending on table) (load (seen rs) (onOf on) v (stateOf rs table m)) (rowAt t v) t u →
+        Tells rs on v (m + 8 * pending on table) (parent (load (seen rs) (onOf on)) c (entryOf n v) (stateOf rs table m)) (rowAt t v) t u
+    bring-loaded free t u p = told-same rs on v (rowAt t v) t (m + 8 * pending on table) (m + 8 * pending on table) _ _ u (sym (leads-to none (state-free rs table m v free))) (omega arith) p
+
+-- the code as the entry's byte
+pub bring-byte : (rs : List Parsed) (on : List Bool) (c n v e : ℕ) → v ≡ e → (most : ℕ) (s : Store) (t : List ℕ) (u : Told) →
+    Tells rs on v most (parent (load (seen rs) (onOf on)) c (entryOf n v) s) (rowAt t v) t u → Tells rs on e most (parent (load (seen rs) (onOf on)) c (entryOf n e) s) (rowAt t e) t u
+bring-byte rs on c n v e is most s t u p = subst (λ (x : ℕ). Tells rs on x most (parent (load (seen rs) (onOf on)) c (entryOf n x) s) (rowAt t x) t u) is p
+
+-- The walk, branch by branch
 
 module _ (rs : List Parsed) (on : List Bool) (c n : ℕ) (codes : List ℕ) where
   module _ (k : ℕ) (row table : List ℕ) (m : ℕ) where
     pub walk-none : k ≡ 0 → Row rs row → numberOf row ≡ c → Table rs table → Tells rs on c (m + k + 8 * pending on table) (walks rs on c n codes k (configOf rs row) (stateOf rs table m)) row table (Done m)
     walk-none z r o t = record { told = record { answer = rw z refl; row = r; own = o; table = t; few = omega arith } }
 
-    module _ (long : length codes ≡ 8) (few : k ≤ 8) (more : k ≡ 0 → ⊥) where
+    module _ (long : k ≤ length codes) (more : k ≡ 0 → ⊥) where
       head-of : (j : ℕ) → k ≡ suc j → reverse (coded n codes k) ≡ entryOf n (getD codes (k - 1) 0) ∷ reverse (coded n codes (k - 1))
-      head-of j e = let d : k - 1 ≡ j = omega (arith, e) in rw (d, e) (last-first n codes j (omega (arith, e, few, long)))
+      head-of j e = let d : k - 1 ≡ j = omega (arith, e) in rw (d, e) (last-first n codes j (omega (arith, e, long)))
 
       head : reverse (coded n codes k) ≡ entryOf n (getD codes (k - 1) 0) ∷ reverse (coded n codes (k - 1))
       head = go k refl
@@ -150,67 +202,41 @@ module _ (rs : List Parsed) (on : List Bool) (c n : ℕ) (codes : List ℕ) wher
           go zero e = absurd (more e)
           go (suc j) e = head-of j e
 
-      -- the walk meets the entry
-      meets : (e : Entry) → entryOf n (getD codes (k - 1) 0) ≡ e → (x : Merged) (s : Store) → walks rs on c n codes k x s ≡ walk (load (seen rs) (onOf on)) c (e ∷ reverse (coded n codes (k - 1))) x s
-      meets e h x s = ap (λ (l : List Entry). walk (load (seen rs) (onOf on)) c l x s) (head ∙ ap (_∷ reverse (coded n codes (k - 1))) h)
+      -- what the walk does with the parent that it meets
+      next : Gives → Gives
+      next z = z >>= λ r. walks rs on c n codes (k - 1) (merge (configOf rs row) (r .config)) (counted (r .state))
 
-      module _ (v : ℕ) (is : v ≡ getD codes (k - 1) 0) (x : Merged) (s : Store) where
-        code-of : (e : Entry) → entryOf n v ≡ e → entryOf n (getD codes (k - 1) 0) ≡ e
-        code-of e h = ap (entryOf n) (sym is) ∙ h
+      -- e is the code that is read
+      module _ (e : ℕ) (t : List ℕ) (u : Told)
+          (p : Tells rs on e (m + 8 * pending on table) (parent (load (seen rs) (onOf on)) c (entryOf n e) (stateOf rs table m)) (rowAt t e) t u) (is : e ≡ getD codes (k - 1) 0) where
+        meets : walks rs on c n codes k (configOf rs row) (stateOf rs table m) ≡ next (parent (load (seen rs) (onOf on)) c (entryOf n e) (stateOf rs table m))
+        unfolding next
+        meets =
+            ap (λ (l : List Entry). walk (load (seen rs) (onOf on)) c l (configOf rs row) (stateOf rs table m)) head
+            ∙ ap (λ (x : ℕ). next (parent (load (seen rs) (onOf on)) c (entryOf n x) (stateOf rs table m))) (sym is)
 
-        module _ (out : n ≤ v) where
-          pub walk-missing : v ≡ 253 → walks rs on c n codes k x s ≡ refused 8 c
-          unfolding entryOf
-          walk-missing e = meets missing (code-of missing (rw (le-ltb v n out, e) refl)) x s
+        pub walk-refused : (a b : ℕ) → u ≡ Refused a b → walks rs on c n codes k (configOf rs row) (stateOf rs table m) ≡ refused a b
+        unfolding next
+        walk-refused a b f = meets ∙ ap next (told-refused rs on e (rowAt t e) t (m + 8 * pending on table) _ u a b f p)
 
-          pub walk-bare : v ≡ 254 → walks rs on c n codes k x s ≡ refused 12 c
-          unfolding entryOf
-          walk-bare e = meets bare (code-of bare (rw (le-ltb v n out, e) refl)) x s
+        module _ (d : ℕ) (f : u ≡ Done d) (v : ℕ) (byte : v ≡ e) where
+          -- the parent is there
+          pub walk-went : Went rs on v (m + 8 * pending on table) (parent (load (seen rs) (onOf on)) c (entryOf n e) (stateOf rs table m)) (rowAt t v) t d
+          walk-went = rw byte (told-done rs on e (rowAt t e) t (m + 8 * pending on table) _ u d f p)
 
-          pub walk-empty : (v ≡ 253 → ⊥) → (v ≡ 254 → ⊥) → walks rs on c n codes k x s ≡ refused 11 c
-          unfolding entryOf
-          walk-empty e f = meets empty (code-of empty (rw (le-ltb v n out, ne-eqb v 253 e, ne-eqb v 254 f) refl)) x s
+          pub walk-on : (row₂ : List ℕ) → configOf rs row₂ ≡ merge (configOf rs row) (configOf rs (rowAt t v)) → (row₃ table₃ : List ℕ) (r : Told) →
+              Tells rs on c (d + 1 + (k - 1) + 8 * pending on t) (walks rs on c n codes (k - 1) (configOf rs row₂) (stateOf rs t (d + 1))) row₃ table₃ r →
+              Tells rs on c (m + k + 8 * pending on table) (walks rs on c n codes k (configOf rs row) (stateOf rs table m)) row₃ table₃ r
+          unfolding next
+          walk-on row₂ g row₃ table₃ r q =
+              told-same rs on c row₃ table₃ (d + 1 + (k - 1) + 8 * pending on t) (m + k + 8 * pending on table) _ _ r
+              (ap₂ (walks rs on c n codes (k - 1)) g (state-counted rs t d) ∙ sym (meets ∙ ap next (walk-went .answer)))
+              (omega (arith, more, walk-went .few)) q
 
-        -- the entry leads to a record
-        leads-on : v < n → walks rs on c n codes k x s ≡ (recall (s .table v) (load (seen rs) (onOf on) v) s >>= λ r. walks rs on c n codes (k - 1) (merge x (r .config)) (counted (r .state)))
-        unfolding entryOf
-        leads-on h = meets (leads v) (code-of (leads v) (rw (lt-ltb v n h) refl)) x s
-
-      module _ (v : ℕ) (is : v ≡ getD codes (k - 1) 0) (lt : v < n) where
-        -- what follows a parent that is loaded: its row is merged into the row
-        follows : (t row₂ : List ℕ) (d : ℕ) → configOf rs row₂ ≡ merge (configOf rs row) (configOf rs (rowAt t v)) →
-            walks rs on c n codes (k - 1) (configOf rs row₂) (stateOf rs t (d + 1)) ≡ walks rs on c n codes (k - 1) (merge (configOf rs row) (configOf rs (rowAt t v))) (counted (stateOf rs t d))
-        follows t row₂ d e = ap₂ (walks rs on c n codes (k - 1)) e (state-counted rs t d)
-
-        pub walk-hit : (held : holder table v ≡ absent → ⊥) → (row₂ : List ℕ) → configOf rs row₂ ≡ merge (configOf rs row) (configOf rs (rowAt table v)) → (row₃ table₃ : List ℕ) (r : Told) →
-            Tells rs on c (m + 1 + (k - 1) + 8 * pending on table) (walks rs on c n codes (k - 1) (configOf rs row₂) (stateOf rs table (m + 1))) row₃ table₃ r →
-            Tells rs on c (m + k + 8 * pending on table) (walks rs on c n codes k (configOf rs row) (stateOf rs table m)) row₃ table₃ r
-        walk-hit held row₂ e row₃ table₃ r q =
-            told-same rs on c row₃ table₃ (m + 1 + (k - 1) + 8 * pending on table) (m + k + 8 * pending on table) _ _ r
-            (follows table row₂ m e
-            ∙ sym (leads-on v is (configOf rs row) (stateOf rs table m) lt ∙ ap (λ (o : Option Merged). recall o (load (seen rs) (onOf on) v) (stateOf rs table m) >>= λ r. walks rs on c n codes (k - 1) (merge (configOf rs row) (r .config)) (counted (r .state))) (state-held rs table m v held)))
-            (omega (arith, more)) q
-
-        module _ (free : holder table v ≡ absent) (t : List ℕ) (u : Told)
-            (p : Tells rs on v (m + 8 * pending on table) (load (seen rs) (onOf on) v (stateOf rs table m)) (rowAt t v) t u) where
-          loads : walks rs on c n codes k (configOf rs row) (stateOf rs table m) ≡ (load (seen rs) (onOf on) v (stateOf rs table m) >>= λ r. walks rs on c n codes (k - 1) (merge (configOf rs row) (r .config)) (counted (r .state)))
-          loads = leads-on v is (configOf rs row) (stateOf rs table m) lt ∙ ap (λ (o : Option Merged). recall o (load (seen rs) (onOf on) v) (stateOf rs table m) >>= λ r. walks rs on c n codes (k - 1) (merge (configOf rs row) (r .config)) (counted (r .state))) (state-free rs table m v free)
-
-          pub walk-refused : (a b : ℕ) → u ≡ Refused a b → walks rs on c n codes k (configOf rs row) (stateOf rs table m) ≡ refused a b
-          walk-refused a b e = loads ∙ ap (λ (z : Gives). z >>= λ r. walks rs on c n codes (k - 1) (merge (configOf rs row) (r .config)) (counted (r .state))) (told-refused rs on v (rowAt t v) t (m + 8 * pending on table) (load (seen rs) (onOf on) v (stateOf rs table m)) u a b e p)
-
-          module _ (d : ℕ) (e : u ≡ Done d) where
-            -- the parent is loaded
-            pub walk-went : Went rs on v (m + 8 * pending on table) (load (seen rs) (onOf on) v (stateOf rs table m)) (rowAt t v) t d
-            walk-went = told-done rs on v (rowAt t v) t (m + 8 * pending on table) (load (seen rs) (onOf on) v (stateOf rs table m)) u d e p
-
-            pub walk-miss : (row₂ : List ℕ) → configOf rs row₂ ≡ merge (configOf rs row) (configOf rs (rowAt t v)) → (row₃ table₃ : List ℕ) (r : Told) →
-                Tells rs on c (d + 1 + (k - 1) + 8 * pending on t) (walks rs on c n codes (k - 1) (configOf rs row₂) (stateOf rs t (d + 1))) row₃ table₃ r →
-                Tells rs on c (m + k + 8 * pending on table) (walks rs on c n codes k (configOf rs row) (stateOf rs table m)) row₃ table₃ r
-            walk-miss row₂ f row₃ table₃ r q =
-                told-same rs on c row₃ table₃ (d + 1 + (k - 1) + 8 * pending on t) (m + k + 8 * pending on table) _ _ r
-                (follows t row₂ d f ∙ sym (loads ∙ ap (λ (z : Gives). z >>= λ r. walks rs on c n codes (k - 1) (merge (configOf rs row) (r .config)) (counted (r .state))) (walk-went .answer)))
-                (omega (arith, more, walk-went .few)) q
+-- the codes that are handed on are those that are walked over
+pub walk-taken : (rs : List Parsed) (on : List Bool) (c n : ℕ) (codes : List ℕ) (k most : ℕ) (x : Merged) (s : Store) (row table : List ℕ) (r : Told) (short : List ℕ) → short ≡ take k codes →
+    Tells rs on c most (walks rs on c n short k x s) row table r → Tells rs on c most (walks rs on c n codes k x s) row table r
+walk-taken rs on c n codes k most x s row table r short e q = told-same rs on c row table most most _ _ r (ap (λ (l : List ℕ). walk (load (seen rs) (onOf on)) c (reverse (map (entryOf n) l)) x s) (ap (take k) e ∙ take-take k k codes (omega arith))) (omega arith) q
 
 -- The load, branch by branch
 
@@ -239,14 +265,17 @@ module _ (rs : List Parsed) (on : List Bool) (c : ℕ) (inside : c < length rs) 
           (sym (ap₂ (λ (chain : ℕ → Bool) (l : List Entry). walk (load (seen rs) chain) c (reverse l) (configOf rs row) (stateOf rs table m)) (on-add on c (omega (arith, long, lt))) (load-ready .entries)
           ∙ ap (λ (x : Merged). walk (load (seen rs) (add c (onOf on))) c (reverse (seen rs .entries c)) x (stateOf rs table m)) (load-ready .config)))
 
-      module _ (free : holder table c ≡ absent) (row₂ t : List ℕ) (w : Told)
-          (q : Tells rs (set on c true) c (m + k + 8 * pending (set on c true) table) (walks rs (set on c true) c n codes k (configOf rs row) (stateOf rs table m)) row₂ t w) where
+      module _ (free : holder table c ≡ absent) (short : List ℕ) (is : short ≡ take k codes) (row₂ t : List ℕ) (w : Told)
+          (q : Tells rs (set on c true) c (m + k + 8 * pending (set on c true) table) (walks rs (set on c true) c n short k (configOf rs row) (stateOf rs table m)) row₂ t w) where
+        taken : Tells rs (set on c true) c (m + k + 8 * pending (set on c true) table) (walks rs (set on c true) c n codes k (configOf rs row) (stateOf rs table m)) row₂ t w
+        taken = walk-taken rs (set on c true) c n codes k (m + k + 8 * pending (set on c true) table) (configOf rs row) (stateOf rs table m) row₂ t w short is q
+
         pub load-refused : (a b : ℕ) → w ≡ Refused a b → load (seen rs) (onOf on) c (stateOf rs table m) ≡ refused a b
-        load-refused a b f = opens ∙ ap (λ (z : Gives). z >>= λ v. done (v .config) (put c (v .config) (v .state))) (told-refused rs (set on c true) c row₂ t (m + k + 8 * pending (set on c true) table) (walks rs (set on c true) c n codes k (configOf rs row) (stateOf rs table m)) w a b f q)
+        load-refused a b f = opens ∙ ap (λ (z : Gives). z >>= λ v. done (v .config) (put c (v .config) (v .state))) (told-refused rs (set on c true) c row₂ t (m + k + 8 * pending (set on c true) table) (walks rs (set on c true) c n codes k (configOf rs row) (stateOf rs table m)) w a b f taken)
 
         module _ (d : ℕ) (f : w ≡ Done d) where
           pub load-went : Went rs (set on c true) c (m + k + 8 * pending (set on c true) table) (walks rs (set on c true) c n codes k (configOf rs row) (stateOf rs table m)) row₂ t d
-          load-went = told-done rs (set on c true) c row₂ t (m + k + 8 * pending (set on c true) table) (walks rs (set on c true) c n codes k (configOf rs row) (stateOf rs table m)) w d f q
+          load-went = told-done rs (set on c true) c row₂ t (m + k + 8 * pending (set on c true) table) (walks rs (set on c true) c n codes k (configOf rs row) (stateOf rs table m)) w d f taken
 
           pub load-done :
               (u : List ℕ) → length u ≡ 1792 → rowAt u c ≡ row₂ → (holder u c ≡ absent → ⊥) → ((i : ℕ) → (i ≡ c → ⊥) → rowAt u i ≡ rowAt t i) → ((i : ℕ) → (i ≡ c → ⊥) → holder u i ≡ holder t i) →
@@ -258,6 +287,6 @@ module _ (rs : List Parsed) (on : List Bool) (c : ℕ) (inside : c < length rs) 
                 ∙ sym (ap₂ (λ (x : Merged) (s : Store). done x s) (ap (configOf rs) same) (state-put rs t u row₂ c same held others holders d));
             row = rw same (load-went .row);
             own = rw same (load-went .own);
-            table = table-put rs t u row₂ c same held others holders l (load-went .row) (load-went .table);
+            table = table-put rs t u row₂ c same held others holders l (load-went .row) (load-went .own) (load-went .table);
             few = omega (arith, load-went .few, load-ready .few, pending-put on t u c (omega (arith, long, lt)) held holders, pending-falls on table c lt long off free);
           }

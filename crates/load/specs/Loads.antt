@@ -44,10 +44,11 @@ stateOf rs table m = record { table = λ i. cond (unloaded table i) none (some (
 unfoldable pub pending : List Bool → List ℕ → ℕ
 pending on table = tally 64 (λ i. 1) (λ i. not (onOf on i) && unloaded table i)
 
--- the loaded rows of a table are rows of records that are there
+-- the loaded rows of a table are rows of records that are there, each of its own
 pub record Table (rs : List Parsed) (table : List ℕ) : Type 0 where
   pub long : length table ≡ 1792
   pub rows : (i : ℕ) → (holder table i ≡ absent → ⊥) → Row rs (rowAt table i)
+  pub own : (i : ℕ) → (holder table i ≡ absent → ⊥) → holder table i ≡ i
 
 -- what a load gives
 abbrev pub Gives : Type 0
@@ -121,10 +122,17 @@ pub record WalkPre (commands text : Text) (begins starts lens : List ℕ) (n : �
   pub chain : length on ≡ 64
   pub inside : c < n
   pub left : k ≤ 8
-  pub long : length codes ≡ 8
+  pub long : k ≤ length codes
   pub row : Row (recordsOf commands text) x
   pub own : numberOf x ≡ c
   pub few : m + k + 8 * pending on t ≤ 65536
+
+-- what bringing a parent asks
+pub record BringPre (commands text : Text) (begins starts lens : List ℕ) (n : ℕ) (t : List ℕ) (on : List Bool) (m : ℕ) : Type 0 where
+  pub book : Tables commands text begins starts lens n
+  pub table : Table (recordsOf commands text) t
+  pub chain : length on ≡ 64
+  pub few : m + 8 * pending on t ≤ 65536
 
 -- no record on the chain
 abbrev pub nobody : List Bool

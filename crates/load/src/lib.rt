@@ -31,14 +31,14 @@ ghost use Rattle.book.specs.Record.{strings};
 ghost use Rattle.book.specs.Index.{recordAt as recordCommands};
 ghost use Rattle.book.specs.Find.{locate as locateOf};
 ghost use Rattle.records.specs.Items.{pathTable, foundNumber};
-ghost use Rattle.tsconfig_resolver.specs.Load.{unread as unreadOf, load as loadOf};
+ghost use Rattle.tsconfig_resolver.specs.Load.{unread as unreadOf, load as loadOf, parent as parentBy};
 ghost use Rattle.tsconfig_resolver.specs.Find.{seen, meant};
 ghost use Rattle.tsconfig_resolver.specs.References.{refer as referOf};
 ghost use Rattle.tsconfig_resolver.specs.Project.{referTo, referencesOf};
 ghost use Rattle.rows.specs.Rows.{configOf, rowAt};
 ghost use Rattle.rows.specs.Records.{recordsOf};
 ghost use Rattle.load.specs.Codes.{entryOf, entryAt, refusalOf, Codes, EntriesPre};
-ghost use Rattle.load.specs.Loads.{onOf, stateOf, pending, Tells, Opens, Stores, Lists, WholeAs, OpenPre, LoadPre, WalkPre, ReferPre, ReferToPre, ReferencesPre, RecordPre, nobody, walks as walksOf};
+ghost use Rattle.load.specs.Loads.{onOf, stateOf, pending, Tells, Opens, Stores, Lists, WholeAs, OpenPre, LoadPre, WalkPre, BringPre, ReferPre, ReferToPre, ReferencesPre, RecordPre, nobody, walks as walksOf};
 
 // The codes of the extends entries that lead to no record: none is found, it starts with neither `/` nor `.`, or it is empty.
 const MISSING: u8 = 253;
@@ -254,6 +254,7 @@ fn load(
     ) {
         Opening::Refused(x) => return Told::Refused(x, c),
         Opening::Ready(k) => {
+            let entries = upto(&codes, k);
             let mut longer = on;
             longer[c] = true;
             match walk(
@@ -266,7 +267,7 @@ fn load(
                 table,
                 longer,
                 c,
-                &codes,
+                entries,
                 k,
                 &mut row,
                 m,
@@ -304,37 +305,10 @@ fn walk(
         return Told::Done(m);
     }
     let e = codes[k - 1];
-    let v = wide(e);
-    if n <= v {
-        if e == MISSING {
-            return Told::Refused(8, c);
-        }
-        if e == BARE {
-            return Told::Refused(12, c);
-        }
-        return Told::Refused(11, c);
-    }
-    if table[ROW * v + OWN] != ABSENT {
-        merge_row(row, table, v);
-        return walk(
-            commands,
-            text,
-            begins,
-            starts,
-            lens,
-            n,
-            table,
-            on,
-            c,
-            codes,
-            k - 1,
-            row,
-            m + 1,
-        );
-    }
-    match load(commands, text, begins, starts, lens, n, table, on, v, m) {
+    match bring(commands, text, begins, starts, lens, n, table, on, c, e, m) {
         Told::Refused(a, b) => return Told::Refused(a, b),
         Told::Done(d) => {
+            let v = wide(e);
             merge_row(row, table, v);
             return walk(
                 commands,
@@ -353,6 +327,39 @@ fn walk(
             );
         }
     }
+}
+
+// Brings the parent of the record c that the code e of an entry stands for: it is in the table, or it is loaded into it under the chain.
+fn bring(
+    commands: &[u8],
+    text: &[u8],
+    begins: &[usize],
+    starts: &[usize],
+    lens: &[usize],
+    n: usize,
+    table: &mut [u8],
+    on: [bool; 64],
+    c: usize,
+    e: u8,
+    m: usize,
+) -> Told
+    requires { ⌜ BringPre (now commands) (now text) (now begins) (now starts) (now lens) n (now table) on m ⌝ }
+    ensures { λ r. ⌜ Tells (recordsOf (now (commands .entry)) (now (text .entry))) on e (m + 8 * pending on (now (table .entry))) (parentBy (loadOf (seen (recordsOf (now (commands .entry)) (now (text .entry)))) (onOf on)) c (entryOf n e) (stateOf (recordsOf (now (commands .entry)) (now (text .entry))) (now (table .entry)) m)) (rowAt (now (table .exit)) e) (now (table .exit)) r ⌝ }
+{
+    let v = wide(e);
+    if n <= v {
+        if e == MISSING {
+            return Told::Refused(8, c);
+        }
+        if e == BARE {
+            return Told::Refused(12, c);
+        }
+        return Told::Refused(11, c);
+    }
+    if table[ROW * v + OWN] != ABSENT {
+        return Told::Done(m);
+    }
+    load(commands, text, begins, starts, lens, n, table, on, v, m)
 }
 
 // Loads the reference r of the record c: its own row and its parents, by a chain that starts empty. It is not put into the table.
@@ -379,6 +386,7 @@ fn refer(
     match open_record(commands, text, begins, starts, lens, n, r, &mut codes, row) {
         Opening::Refused(x) => return Told::Refused(x, r),
         Opening::Ready(k) => {
+            let entries = upto(&codes, k);
             let on = [false; 64];
             return walk(
                 commands,
@@ -390,7 +398,7 @@ fn refer(
                 table,
                 on,
                 r,
-                &codes,
+                entries,
                 k,
                 row,
                 m,

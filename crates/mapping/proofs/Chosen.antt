@@ -1,13 +1,13 @@
 -- The choice of a key, one item of the record after the other. Assumes nothing.
 use mathlib.Core.Path.{_≡_, refl, sym, ap, _∙_}
 use mathlib.Core.List.{List, [], _∷_}
-use mathlib.Core.Bool.{Bool, true, false, _&&_, cond}
+use mathlib.Core.Bool.{Bool, true, false, _&&_, not, cond}
 use mathlib.Core.Option.{Option, some, none}
 use Prim.Native.Nat.{ℕ, suc, _+_, _-_, _≤_, _<_}
 use native.Mathlib.Omega.{arith}
 use native.Mathlib.Numerals.{add-one}
 use lib.ListN.{length}
-use borrow.Author.Tests.{lt-ltb, le-ltb}
+use borrow.Author.Tests.{lt-ltb, le-ltb, not-false}
 use Rattle.text.specs.Bytes.{Text}
 use Rattle.text.specs.Text.{sameText, starOf}
 use Rattle.text.specs.declared.Found.{Found}
@@ -46,6 +46,10 @@ module _ (s text : Text) where
       pub keys-less : length s - next < length s - at
       keys-less = let g = got (is key) s at c next (sym e ∙ i) in omega (arith, g .forth, g .within)
 
+-- the same with no text in view
+pub item-less : (s : Text) (at : ℕ) (r : Item) → r ≡ itemOf key (readFrom s at) → (c : Cmd) (next : ℕ) → r ≡ At c next → length s - next < length s - at
+item-less s at r i c next e = keys-less s [] at r i e
+
 module _ (s text spec : Text) (at : ℕ) (r : Item) (i : r ≡ itemOf key (readFrom s at)) where
   -- an equal key
 
@@ -61,6 +65,13 @@ module _ (s text spec : Text) (at : ℕ) (r : Item) (i : r ≡ itemOf key (readF
     pub equal-on : b ≡ false → equalKey spec (keysFrom s text at) ≡ equalKey spec (keysFrom s text next)
     unfolding equalKey
     equal-on n = rw (keys-on s text at r i e, ← k, ← q, n) refl
+
+    module _ (x : Option Key) (p : equalKey spec (keysFrom s text at) ≡ x) where
+      pub equal-found : b ≡ true → some (keyOf s text c next) ≡ x
+      equal-found y = equal-here y ∙ p
+
+      pub equal-passed : b ≡ false → equalKey spec (keysFrom s text next) ≡ x
+      equal-passed n = sym (equal-on n) ∙ p
 
   -- the best wildcard; b is the best so far
 
@@ -112,5 +123,12 @@ module _ (s text spec : Text) (at : ℕ) (r : Item) (i : r ≡ itemOf key (readF
               pub best-taken : least ≤ star → bestKey spec (some (keyOf s text c next)) (keysFrom s text next) ≡ bestKey spec b (keysFrom s text at)
               best-taken n = sym (best-on ∙ rw (is-longer b l n, ← k, ← match-told t spec f g star h m q y) refl)
 
-              pub least-taken : star + 1 ≡ leastOf (some (keyOf s text c next))
-              least-taken = add-one star ∙ ap suc (sym long-of)
+-- the same as the loop's claim, each premise after those that show what it is about
+pub best-picked : (s text spec : Text) (x b : Option Key) (at : ℕ) → bestKey spec b (keysFrom s text at) ≡ x → (r : Item) → r ≡ itemOf key (readFrom s at) → (c : Cmd) (next : ℕ) → r ≡ At c next → (t : Text) → t ≡ textOf text c →
+    (f : Found) → f ≡ starOf t → (star : ℕ) → f ≡ found.At star → (least : ℕ) → least ≡ leastOf b → least ≤ star → (m : Bool) → m ≡ matchesAt t star spec → not m ≡ false →
+    bestKey spec (some (keyOf s text c next)) (keysFrom s text next) ≡ x
+best-picked s text spec x b at p r i c next e t k f g star h least l n m q y = best-taken s text spec at r i b e t k f g star h least l m q (not-false m y) n ∙ p
+
+pub least-picked : (s text : Text) (c : Cmd) (next : ℕ) (t : Text) → t ≡ textOf text c → (f : Found) → f ≡ starOf t → (star : ℕ) → f ≡ found.At star → star + 1 ≡ leastOf (some (keyOf s text c next))
+unfolding prefixLen
+least-picked s text c next t k f g star h = add-one star ∙ ap suc (rw (← k, ← g, h) refl)

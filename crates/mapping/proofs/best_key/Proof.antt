@@ -2,11 +2,11 @@ use Prim.Native.Nat.{_-_}
 use mathlib.Core.Path.{_≡_, refl, _∙_}
 use mathlib.Core.Option.{none}
 use lib.ListN.{length}
-use borrow.Author.Tests.{not-true, not-false}
+use borrow.Author.Tests.{not-true}
 use Rattle.tsconfig.specs.Mapping.{bestKey}
 use Rattle.mapping.specs.Keyed.{keyAt, leastOf}
 use Rattle.keys.proofs.Laws.{star-in}
-use Rattle.mapping.proofs.Chosen.{keysFrom, keys-less, best-end, best-bare, best-shorter, best-other, best-taken, least-taken}
+use Rattle.mapping.proofs.Chosen.{keysFrom, keys-less, item-less, best-end, best-bare, best-shorter, best-other, best-picked, least-picked}
 use native.Mathlib.Omega.{arith}
 use borrow.Author.Needs.{needs}
 use Rattle.mapping.proofs.best_key.Statement.{statement}
@@ -76,10 +76,10 @@ add-least : tie.Need-add-least Inv-loop μ-loop
 add-least c = let a = star-in _ (c .before .before .before .before .before .before .before .before .before .before .before .before .before .before .before .before .args .spec .now) _ (c .before .before .before .before .before .before .find-star .ensures) _ (c .before .before .before .before .star .given .1) in omega (arith, a)
 
 loop-less-4 : tie.Need-loop-less-4 Inv-loop μ-loop
-loop-less-4 c = keys-less _ (c .before .before .before .before .before .before .before .before .before .before .before .before .before .before .before .before .args .text .now) _ _ (c .before .before .before .before .before .before .before .before .before .before .before .next-item .ensures) (c .before .before .before .before .before .before .before .before .before .c .given .1)
+loop-less-4 c = search (needs, item-less)
 
 loop-again-4 : tie.Need-loop-again-4 Inv-loop μ-loop
-loop-again-4 c = (best-taken _ _ _ _ _ (c .before .before .before .before .before .before .before .before .before .before .before .next-item .ensures) (keyAt (c .before .before .before .before .before .before .before .before .before .before .before .before .before .before .before .before .args .commands .now) (c .before .before .before .before .before .before .before .before .before .before .before .before .before .before .before .before .args .text .now) (c .before .before .before .before .before .before .before .before .before .before .before .before .loop .best)) (c .before .before .before .before .before .before .before .before .before .c .given .1) _ (c .before .before .before .before .before .before .before .string-of .ensures) _ (c .before .before .before .before .before .before .find-star .ensures) _ (c .before .before .before .before .star .given .1) _ (c .before .before .before .before .before .before .before .before .before .before .before .before .loop .inv .1) _ (c .before .matches-at .ensures) (not-false _ (c .if2 .left)) (c .before .before .if1 .left) ∙ c .before .before .before .before .before .before .before .before .before .before .before .before .loop .inv .0, least-taken _ _ _ _ _ (c .before .before .before .before .before .before .before .before .before .before .before .next-item .ensures) (keyAt (c .before .before .before .before .before .before .before .before .before .before .before .before .before .before .before .before .args .commands .now) (c .before .before .before .before .before .before .before .before .before .before .before .before .before .before .before .before .args .text .now) (c .before .before .before .before .before .before .before .before .before .before .before .before .loop .best)) (c .before .before .before .before .before .before .before .before .before .c .given .1) _ (c .before .before .before .before .before .before .before .string-of .ensures) _ (c .before .before .before .before .before .before .find-star .ensures) _ (c .before .before .before .before .star .given .1) _ (c .before .before .before .before .before .before .before .before .before .before .before .before .loop .inv .1) _ (c .before .matches-at .ensures) (not-false _ (c .if2 .left)))
+loop-again-4 c = (search (needs, best-picked), search (needs, least-picked))
 
 pub best-key-spec : {M : Type 1} → statement M
 best-key-spec =

@@ -1,8 +1,8 @@
 use Prim.Native.Nat.{_-_}
-use mathlib.Core.Path.{_≡_, refl, sym, _∙_}
+use mathlib.Core.Path.{_≡_, refl, _∙_}
 use lib.ListN.{length}
 use Rattle.tsconfig.specs.Mapping.{equalKey}
-use Rattle.mapping.proofs.Chosen.{keysFrom, keys-less, equal-end, equal-here, equal-on}
+use Rattle.mapping.proofs.Chosen.{keysFrom, item-less, equal-end, equal-found, equal-passed}
 use borrow.Author.Needs.{needs}
 use Rattle.mapping.proofs.equal_key.Statement.{statement}
 use Rattle.mapping.proofs.equal_key.Tie as tie
@@ -40,13 +40,13 @@ same-text-requires : tie.Need-same-text-requires Inv-loop μ-loop
 same-text-requires c κs = search needs
 
 returns-2 : tie.Need-returns-2 Inv-loop μ-loop
-returns-2 c = equal-here _ _ _ _ _ (c .before .before .before .before .before .before .next-item .ensures) (c .before .before .before .before .c .given .1) _ (c .before .before .string-of .ensures) _ (c .before .same-text .ensures) (c .if1 .taken) ∙ c .before .before .before .before .before .before .before .loop .inv
+returns-2 c = search (needs, equal-found)
 
 loop-less : tie.Need-loop-less Inv-loop μ-loop
-loop-less c = keys-less _ (c .before .before .before .before .before .before .before .before .before .before .before .args .text .now) _ _ (c .before .before .before .before .before .before .next-item .ensures) (c .before .before .before .before .c .given .1)
+loop-less c = search (needs, item-less)
 
 loop-again : tie.Need-loop-again Inv-loop μ-loop
-loop-again c = sym (equal-on _ _ _ _ _ (c .before .before .before .before .before .before .next-item .ensures) (c .before .before .before .before .c .given .1) _ (c .before .before .string-of .ensures) _ (c .before .same-text .ensures) (c .if1 .left)) ∙ c .before .before .before .before .before .before .before .loop .inv
+loop-again c = search (needs, equal-passed)
 
 pub equal-key-spec : {M : Type 1} → statement M
 equal-key-spec =
