@@ -1,7 +1,8 @@
 #!/usr/bin/env python3
 """books.py FOLDER: the books of docs/SPEED.md's figures for whole questions, each as NAME.cmd and NAME.txt, and NAME.ask with its question lines.
 typical: a base config and 19 packages that extend it. limits: the same with 63 packages, as large as the limits of a book let them be.
-ladder: 60 configs, each of which extends the two before it by two entries."""
+ladder: 60 configs, each of which extends the two before it by two entries. hostile: 64 patterns on which the matcher makes the most steps, and a
+file that none of them matches. records-N: the typical book with N records."""
 import sys
 
 
@@ -68,6 +69,16 @@ def ladder(book, n):
     book.lone(20)
 
 
+def hostile(book):
+    book.put(1, '/tsconfig.json')
+    book.lone(4)
+    start, pattern = len(book.text), '**/*/' + '*a/' * 168 + '*b'
+    book.put(5, pattern)
+    for _ in range(63):
+        book.lone(5, start % 256, start // 256, len(pattern) % 256, len(pattern) // 256)
+    book.lone(20)
+
+
 def packages(one, count):
     book = Book()
     base(book)
@@ -77,12 +88,26 @@ def packages(one, count):
     return book, [f'B {last}/tsconfig.json', f'O {last}/src/a/b.ts', f'C {last}/tsconfig.json\t@part-{count - 1:02}/x', f'C {last}/tsconfig.json\tother/x']
 
 
+def alone():
+    book = Book()
+    usual(book, 0)
+    # Nothing is there to be extended.
+    del book.commands[5:10]
+    home = '/repo/packages/part-00'
+    return book, [f'B {home}/tsconfig.json', f'O {home}/src/a/b.ts', f'C {home}/tsconfig.json\t@part-00/x', f'C {home}/tsconfig.json\tother/x']
+
+
 def main(folder):
     books = {'typical': packages(usual, 19), 'limits': packages(large, 63)}
     rungs = Book()
     for n in range(60):
         ladder(rungs, n)
     books['ladder'] = rungs, ['B /repo/rung-59.json']
+    slow = Book()
+    hostile(slow)
+    books['hostile'] = slow, ['O ' + '/a' * 255]
+    for count in (1, 2, 4, 8, 16, 32, 64):
+        books[f'records-{count}'] = packages(usual, count - 1) if count > 1 else alone()
     for name, (book, lines) in books.items():
         assert len(book.commands) <= 32768 and len(book.text) <= 65535, (name, len(book.commands), len(book.text))
         for end, data in (('cmd', book.commands), ('txt', book.text), ('ask', '\n'.join(lines).encode() + b'\n')):

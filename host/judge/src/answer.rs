@@ -33,8 +33,10 @@ impl From<Refusal> for Stop {
     }
 }
 
-type Answer<T> = Result<T, Stop>;
+pub type Answer<T> = Result<T, Stop>;
 
+/// What is asked, in the fields of a question line.
+#[derive(Clone, Copy)]
 pub enum Question<'a> {
     Build(&'a [u8]),
     Owner(&'a [u8]),
@@ -356,6 +358,35 @@ fn listing(config: &TsConfig) -> String {
     out
 }
 
+/// An answer that is no refusal.
+pub enum Reply {
+    Built {
+        record: usize,
+        merges: usize,
+        listing: String,
+    },
+    Owner(Option<(usize, usize)>),
+    Candidates(Vec<PathBuf>),
+    Tries(Vec<PathBuf>),
+}
+
+impl Reply {
+    /// The lines that a program prints.
+    pub fn text(&self) -> String {
+        match self {
+            Self::Built {
+                record,
+                merges,
+                listing,
+            } => format!("built {record} {merges}\n{listing}"),
+            Self::Owner(None) => "owner none\n".to_string(),
+            Self::Owner(Some((found, solution))) => format!("owner {found} {solution}\n"),
+            Self::Candidates(paths) => listed("candidates", paths),
+            Self::Tries(paths) => listed("tries", paths),
+        }
+    }
+}
+
 fn listed(name: &str, paths: &[PathBuf]) -> String {
     let mut out = format!("{name} {}\n", paths.len());
     paths
@@ -375,46 +406,57 @@ impl Book {
         }
     }
 
-    fn ask(&self, question: &Question) -> Answer<String> {
+    /// The answer to one question, by fresh resolvers.
+    pub fn ask(&self, question: Question) -> Answer<Reply> {
         let (records, files) = match &self.read {
             Ok((records, files)) => (records, files),
             Err(refusal) => return Err(Stop::Refused(*refusal)),
         };
         let loader = Loader { records, files };
-        match *question {
+        match question {
             Question::Build(path) => {
                 let config = loader.load(asked(path)?)?;
                 let record = loader.number(config.path());
-                let merges = walk::merges(records, record);
-                Ok(format!("built {record} {merges}\n{}", listing(&config)))
+                Ok(Reply::Built {
+                    record,
+                    merges: walk::merges(records, record),
+                    listing: listing(&config),
+                })
             }
             Question::Owner(path) => {
                 let path = Path::new(asked(path)?);
                 let owner = loader.owner(path, |config| loader.load(text(config)))?;
-                Ok(match owner {
-                    None => "owner none\n".to_string(),
-                    Some((config, solution)) => {
-                        let found = loader.number(config.path());
-                        format!("owner {found} {}\n", loader.number(solution.path()))
-                    }
-                })
+                Ok(Reply::Owner(owner.map(|(config, solution)| {
+                    (
+                        loader.number(config.path()),
+                        loader.number(solution.path()),
+                    )
+                })))
             }
             Question::Candidates(path, name) => {
                 let (path, name) = (asked(path)?, specifier(name)?);
                 let config = loader.load(path)?;
-                Ok(listed(
-                    "candidates",
-                    &config.resolve_path_alias_or_base_url(name),
+                Ok(Reply::Candidates(
+                    config.resolve_path_alias_or_base_url(name),
                 ))
             }
             Question::Tries(path, folder, name) => {
                 let (path, folder, name) = (asked(path)?, asked(folder)?, specifier(name)?);
                 let config = loader.load(path)?;
-                Ok(listed(
-                    "tries",
-                    &loader.tries(&config, Path::new(folder), name),
-                ))
+                Ok(Reply::Tries(loader.tries(
+                    &config,
+                    Path::new(folder),
+                    name,
+                )))
             }
+        }
+    }
+
+    /// The records of an accepted book.
+    pub fn records(&self) -> Result<&[Record], Refusal> {
+        match &self.read {
+            Ok((records, _)) => Ok(records),
+            Err(refusal) => Err(*refusal),
         }
     }
 
@@ -423,8 +465,8 @@ impl Book {
         let Some(question) = Question::parse(line) else {
             return ("unknown\n".to_string(), true);
         };
-        match self.ask(&question) {
-            Ok(text) => (text, true),
+        match self.ask(question) {
+            Ok(reply) => (reply.text(), true),
             Err(Stop::Refused(Refusal { number, place })) => {
                 (format!("refused {number} {place}\n"), true)
             }
@@ -443,8 +485,7 @@ impl Book {
         };
         let path = Path::new(asked(path).ok()?);
         Some(match (Loader { records, files }).owner_by_one(path) {
-            Ok(None) => "owner none\n".to_string(),
-            Ok(Some((found, solution))) => format!("owner {found} {solution}\n"),
+            Ok(owner) => Reply::Owner(owner).text(),
             Err(Stop::Disagrees(error)) => format!("error {error}\n"),
             Err(Stop::Refused(_)) => unreachable!("one resolver's errors are not numbered"),
         })

@@ -13,7 +13,7 @@ pub fn refused<T>(number: u8, place: usize) -> Result<T, Refusal> {
 }
 
 /// One record as its commands say it: a field is `Some` where its command stands.
-#[derive(Clone, Debug, Default)]
+#[derive(Clone, Debug, Default, PartialEq, Eq)]
 pub struct Record {
     pub path: String,
     pub files: Option<Vec<String>>,

@@ -8,11 +8,6 @@
 //!
 //! Ends with 0; with 2 where the judge contradicted itself; with 1 where a file could not be read.
 
-mod answer;
-mod book;
-mod files;
-mod walk;
-
 use std::{
     env, fs,
     io::{self, BufRead, Read, Write},
@@ -21,7 +16,7 @@ use std::{
     process::ExitCode,
 };
 
-use answer::Book;
+use judge::{answer::Book, book, files};
 
 fn open(folder: &Path) -> io::Result<Book> {
     let read = |name: &str| {

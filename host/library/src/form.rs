@@ -44,6 +44,7 @@ use crate::builder::{BookBuf, BookBuilder, OptionKey};
 use crate::command::{Command, Field, Operands};
 use crate::error::Error;
 use crate::questions::{Book, owner};
+use crate::rules::MOST_TEXT;
 
 /// A line that is not in the form, or breaks a rule of books. Its `Display` is a sentence.
 #[derive(Clone, Debug, PartialEq, Eq)]
@@ -200,7 +201,7 @@ fn hex_bytes(digits: &[u8]) -> Option<Vec<u8>> {
 /// ```
 pub fn print(book: Book<'_>) -> String {
     match commands_of(book) {
-        Some(commands) if can_be_built(&commands) => print_lines(&commands),
+        Some(commands) if book.text.len() <= MOST_TEXT && can_be_built(&commands) => print_lines(&commands),
         _ => print_raw(book),
     }
 }

@@ -34,7 +34,8 @@ mod builder;
 mod command;
 mod error;
 #[allow(unsafe_code)]
-mod ffi;
+#[doc(hidden)]
+pub mod ffi;
 pub mod form;
 mod lines;
 #[cfg(test)]

@@ -170,3 +170,10 @@ fn a_raw_form_says_why() {
                     4\ntext 0a3f2f70610a62\n";
     assert_eq!(printed, expected);
 }
+
+#[test]
+fn a_text_that_is_too_long_is_written_raw() {
+    let mut book = made::encode(&[Made::with(Field::Begin, "/p"), Made::plain(Field::End)]);
+    book.text.resize(65_536, b' ');
+    assert_eq!(form::parse(form::print(book.book())), Ok(book));
+}
