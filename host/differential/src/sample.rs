@@ -40,26 +40,34 @@ fn answered<'a>(case: &'a Case, random: &mut Random, letters: &str) -> Result<Ve
     Ok(answers)
 }
 
-impl Sample {
-    fn string(&mut self, bytes: &[u8]) {
-        self.bytes.extend((bytes.len() as u16).to_le_bytes());
-        self.bytes.extend(bytes);
-    }
+fn put_string(to: &mut Vec<u8>, bytes: &[u8]) {
+    to.extend((bytes.len() as u16).to_le_bytes());
+    to.extend(bytes);
+}
 
+/// A question with its answer, without the letter.
+fn body(answer: &Answered) -> Vec<u8> {
+    let Answered { question, room, outcome } = answer;
+    let mut body = vec![];
+    question.fields().iter().for_each(|field| put_string(&mut body, field));
+    body.extend((*room as u16).to_le_bytes());
+    outcome.numbers.iter().for_each(|number| body.extend((*number as u32).to_le_bytes()));
+    body.extend(&outcome.output);
+    body
+}
+
+impl Sample {
     fn put(&mut self, book: &Bytes, answers: &[Answered]) {
-        self.bytes.extend((book.commands.len() as u16).to_le_bytes());
-        self.bytes.extend((book.text.len() as u16).to_le_bytes());
-        self.bytes.extend(&book.commands);
-        self.bytes.extend(&book.text);
-        self.bytes.extend((answers.len() as u16).to_le_bytes());
-        for Answered { question, room, outcome } in answers {
-            self.bytes.push(question.letter());
-            question.fields().iter().for_each(|field| self.string(field));
-            self.bytes.extend((*room as u16).to_le_bytes());
-            outcome.numbers.iter().for_each(|number| self.bytes.extend((*number as u32).to_le_bytes()));
-            self.string(&outcome.output);
-            self.tally.count(question, outcome);
+        let mut entry = vec![];
+        put_string(&mut entry, &book.commands);
+        put_string(&mut entry, &book.text);
+        for answer in answers {
+            entry.push(answer.question.letter());
+            put_string(&mut entry, &body(answer));
+            self.tally.count(answer.question, &answer.outcome);
         }
+        self.bytes.extend((entry.len() as u32).to_le_bytes());
+        self.bytes.extend(entry);
         self.books += 1;
         self.questions += answers.len() as u64;
     }
@@ -127,8 +135,8 @@ mod tests {
         }
     }
 
-    fn question(reader: &mut Reader) -> Question {
-        match reader.number(1) as u8 {
+    fn question(letter: u8, reader: &mut Reader) -> Question {
+        match letter {
             b'B' => Question::Build { path: reader.string() },
             b'O' => Question::Owner { path: reader.string() },
             b'C' => Question::Candidates { path: reader.string(), specifier: reader.string() },
@@ -142,14 +150,18 @@ mod tests {
         let mut reader = Reader(&sample.bytes);
         let mut asked = 0;
         while !reader.0.is_empty() {
-            let (commands, text) = (reader.number(2), reader.number(2));
-            let (commands, text) = (reader.bytes(commands), reader.bytes(text));
-            let judge = Book::new(commands, text);
-            for _ in 0..reader.number(2) {
-                let question = question(&mut reader);
-                let room = reader.number(2);
-                let numbers = [0; 5].map(|_: u8| reader.number(4) as u64);
-                let outcome = Outcome { numbers, output: reader.string() };
+            let length = reader.number(4);
+            let mut entry = Reader(reader.bytes(length));
+            let (commands, text) = (entry.string(), entry.string());
+            let judge = Book::new(&commands, &text);
+            while !entry.0.is_empty() {
+                let letter = entry.number(1) as u8;
+                let body = entry.string();
+                let mut body = Reader(&body);
+                let question = question(letter, &mut body);
+                let room = body.number(2);
+                let numbers = [0; 5].map(|_: u8| body.number(4) as u64);
+                let outcome = Outcome { numbers, output: body.0.to_vec() };
                 assert!(judged(&judge, &question).unwrap().within(room) == outcome);
                 asked += 1;
             }
