@@ -388,6 +388,29 @@ fn answer_all(commands: &[u8], text: &[u8], buffer: &mut [u8], out: &mut [u8]) {
     }
 }
 
+// What an output is filled with before a question, where it is looked at which of its bytes stay.
+const PATTERN: u8 = 0xA5;
+
+pub fn fill(room: &mut [u8]) {
+    let mut i = 0;
+    while i < room.len() {
+        room[i] = PATTERN;
+        i += 1;
+    }
+}
+
+// Whether all of s is still as it was filled.
+pub fn is_kept(s: &[u8]) -> bool {
+    let mut i = 0;
+    while i < s.len() {
+        if s[i] != PATTERN {
+            return false;
+        }
+        i += 1;
+    }
+    true
+}
+
 // Reads a file whole, as far as there is room. Says what is wrong where it cannot be read: one more read tells a file that ended from one
 // that failed.
 pub fn load(name: &[u8], room: &mut [u8]) -> Found {

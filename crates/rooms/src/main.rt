@@ -3,7 +3,9 @@
 // for each question its line, the bytes, and `ok` for each of the two sizes, or what is wrong.
 use asking::Kind;
 use asking::fields;
+use asking::fill;
 use asking::first_field;
+use asking::is_kept;
 use asking::kind_of;
 use asking::load;
 use asking::other_fields;
@@ -23,31 +25,8 @@ ghost use lib.ListN.{length};
 
 const LINE_END: u8 = 0x0A;
 
-// What the output is filled with before a question.
-const PATTERN: u8 = 0xA5;
-
 // The refusal of an output that is too short.
 const SHORT: u64 = 13;
-
-fn fill(room: &mut [u8]) {
-    let mut i = 0;
-    while i < room.len() {
-        room[i] = PATTERN;
-        i += 1;
-    }
-}
-
-// Whether all of s is still as it was filled.
-fn is_kept(s: &[u8]) -> bool {
-    let mut i = 0;
-    while i < s.len() {
-        if s[i] != PATTERN {
-            return false;
-        }
-        i += 1;
-    }
-    true
-}
 
 // Asks a question that has an output: `B`, `T`, and each other line as `C`.
 fn ask(commands: &[u8], text: &[u8], line: &[u8], out: &mut [u8]) -> Numbers {

@@ -3,10 +3,10 @@ use mathlib.Core.Path.{_≡_, refl, sym, ap, _∙_}
 use lib.ListN.{length, take, drop}
 use native.Mathlib.Omega.{arith}
 use borrow.Author.Needs.{needs}
-use Rattle.rooms.proofs.is_kept.Statement.{statement}
-use Rattle.rooms.proofs.is_kept.Tie as tie
-use Rattle.rooms.proofs.is_kept.Reads as reads
-use Rattle.rooms.proofs.is_kept.Lts as lts
+use Rattle.asking.proofs.is_kept.Statement.{statement}
+use Rattle.asking.proofs.is_kept.Tie as tie
+use Rattle.asking.proofs.is_kept.Reads as reads
+use Rattle.asking.proofs.is_kept.Lts as lts
 
 abbrev Inv-loop : tie.InvT-loop
 Inv-loop s i₀ i = i ≤ length s

@@ -3,10 +3,10 @@ use mathlib.Core.Path.{_≡_, refl, sym, ap, _∙_}
 use lib.ListN.{length, take, drop}
 use native.Mathlib.Omega.{arith}
 use borrow.Author.Needs.{needs}
-use Rattle.rooms.proofs.fill.Statement.{statement}
-use Rattle.rooms.proofs.fill.Tie as tie
-use Rattle.rooms.proofs.fill.Reads as reads
-use Rattle.rooms.proofs.fill.Lts as lts
+use Rattle.asking.proofs.fill.Statement.{statement}
+use Rattle.asking.proofs.fill.Tie as tie
+use Rattle.asking.proofs.fill.Reads as reads
+use Rattle.asking.proofs.fill.Lts as lts
 
 abbrev Inv-loop : tie.InvT-loop
 Inv-loop room₀ i₀ room i = (length room ≡ length room₀) × (i ≤ length room₀)
