@@ -7,6 +7,8 @@ use std::path::Path;
 use oxc_resolver::{ResolveOptions, ResolverGeneric, TsconfigDiscovery};
 use tsconfig_questions::ffi::{self, Numbers};
 
+use judge::book::Record;
+
 use crate::files::Texts;
 
 pub type Resolver = ResolverGeneric<Texts>;
@@ -17,6 +19,7 @@ pub struct Book {
     pub text: Vec<u8>,
     /// The path of each config.
     pub configs: Vec<String>,
+    records: Vec<Record>,
     files: Texts,
 }
 
@@ -33,12 +36,21 @@ impl Book {
         let mut lines: Vec<Line> = asked.lines().map(Line::parse).collect::<Result<_, _>>()?;
         let tries: Vec<Line> = lines.iter().filter_map(Line::as_tries).collect();
         lines.extend(tries);
-        let configs = records.into_iter().map(|record| record.path).collect();
-        Ok((Self { commands, text, configs, files }, lines))
+        let configs = records.iter().map(|record| record.path.clone()).collect();
+        Ok((Self { commands, text, configs, records, files }, lines))
     }
 
     /// A resolver that has answered nothing yet. The paths that are tried are tested as themselves alone.
     pub fn fresh(&self) -> Resolver {
+        Self::over(self.files.clone())
+    }
+
+    /// The same, with the JSON texts made for it, as they must be where a book is what there is.
+    pub fn fresh_from_book(&self) -> Resolver {
+        Self::over(Texts::of(&self.records))
+    }
+
+    fn over(files: Texts) -> Resolver {
         let options = ResolveOptions {
             tsconfig: Some(TsconfigDiscovery::Auto),
             node_path: false,
@@ -46,7 +58,7 @@ impl Book {
             main_files: vec![],
             ..ResolveOptions::default()
         };
-        Resolver::new_with_file_system(self.files.clone(), options)
+        Resolver::new_with_file_system(files, options)
     }
 }
 
