@@ -42,7 +42,7 @@ slot-of-requires : tie.Need-slot-of-requires Inv-loop μ-loop
 slot-of-requires c κs = byte-known _ _ _ _ _ _ (c .before .before .before .before .before .loop .inv) (c .before .before .before .step .ensures) (c .before .c .given .1)
 
 slice-aggregate-fault-of : tie.Need-slice-aggregate-fault-of Inv-loop μ-loop
-slice-aggregate-fault-of c = search needs
+slice-aggregate-fault-of c = sym (c .before .before .before .before .before .before .before .loop .inv .agrees .size)
 
 fault-of-requires : tie.Need-fault-of-requires Inv-loop μ-loop
 fault-of-requires c κs = ((byte-known _ _ _ _ _ _ (c .before .before .before .before .before .before .before .loop .inv) (c .before .before .before .before .before .step .ensures) (c .before .before .before .c .given .1), (c .before .slot-of .ensures, c .before .before .before .before .before .before .before .loop .inv .agrees .size)), (c .before .before .before .before .before .before .before .before .before .before .before .before .before .pre .1 .0, c .before .before .before .before .before .before .before .before .before .before .before .before .before .pre .1 .1))
@@ -51,13 +51,13 @@ returns-3 : tie.Need-returns-3 Inv-loop μ-loop
 returns-3 c = turn-refused _ _ _ _ _ _ (c .before .before .before .before .before .before .before .before .before .loop .inv) (c .before .before .before .before .before .before .before .step .ensures) (c .before .before .before .before .before .c .given .1) (c .before .fault-of .ensures) (c .if1 .taken)
 
 slice-aggregate-put-key : tie.Need-slice-aggregate-put-key Inv-loop μ-loop
-slice-aggregate-put-key c = search needs
+slice-aggregate-put-key c = sym (c .before .before .before .before .before .before .before .before .before .before .loop .inv .rows .0)
 
 slice-aggregate-put-key-2 : tie.Need-slice-aggregate-put-key-2 Inv-loop μ-loop
-slice-aggregate-put-key-2 c = search needs
+slice-aggregate-put-key-2 c = sym (c .before .before .before .before .before .before .before .before .before .before .before .loop .inv .rows .1 .0)
 
 slice-aggregate-put-key-3 : tie.Need-slice-aggregate-put-key-3 Inv-loop μ-loop
-slice-aggregate-put-key-3 c = search needs
+slice-aggregate-put-key-3 c = sym (c .before .before .before .before .before .before .before .before .before .before .before .before .loop .inv .rows .1 .1)
 
 put-key-requires : tie.Need-put-key-requires Inv-loop μ-loop
 put-key-requires c κs = ((key-room _ _ _ _ _ _ (c .before .before .before .before .before .before .before .before .before .before .before .before .loop .inv) (c .before .before .before .before .before .before .before .before .before .before .step .ensures) (c .before .before .before .before .before .before .before .before .c .given .1) (c .before .before .before .before .fault-of .ensures) (c .before .before .before .if1 .left), c .before .before .before .before .before .before .before .before .before .before .before .before .loop .inv .rows), (c .before .before .before .before .before .before .before .before .before .before .before .before .loop .inv .table, c .before .before .before .before .before .before .before .before .before .before .before .before .loop .inv .marks))
