@@ -8,16 +8,16 @@ use Rattle.book.proofs.fault_of.Statement.{statement}
 use Rattle.book.proofs.fault_of.Tie as tie
 
 in-order-requires : tie.Need-in-order-requires
-in-order-requires c κs = c .before .before .before .before .before .pre .0
+in-order-requires c κs = search needs
 
 returns : tie.Need-returns
-returns c = out-of-order _ _ _ _ _ _ _ _ (c .before .in-order .ensures) (c .if1 .taken)
+returns c = search (needs, out-of-order)
 
 good-string-requires : tie.Need-good-string-requires
-good-string-requires c κs = c .before .before .before .before .before .before .before .pre .1 .0
+good-string-requires c κs = search needs
 
 returns-2 : tie.Need-returns-2
-returns-2 c = bad-string _ _ _ _ _ _ _ _ (c .before .before .before .in-order .ensures) (c .before .before .if1 .left) _ (c .before .good-string .ensures) (c .if2 .taken)
+returns-2 c = search (needs, bad-string)
 
 is-too-many-requires : tie.Need-is-too-many-requires
 is-too-many-requires c κs = let s = in-slot _ _ _ (sym (c .before .before .before .in-order .ensures) ∙ not-false _ (c .before .before .if1 .left)) _ (c .before .before .before .before .before .before .before .before .before .pre .0 .1 .0) in (c .before .before .before .before .before .before .before .before .before .pre .0 .0, (s .0, (s .1, c .before .before .before .before .before .before .before .before .before .pre .0 .1 .1)))
