@@ -1,17 +1,19 @@
 -- The ways out of the fault of a command. Assumes nothing.
 use mathlib.Core.Path.{_≡_, refl, sym, _∙_}
-use mathlib.Core.List.{List}
+use mathlib.Core.List.{List, []}
 use mathlib.Core.Bool.{Bool, true, false, not, _&&_, cond}
 use mathlib.Core.Option.{some, none}
 use Prim.Native.Nat.{ℕ, _+_, _≤_}
 use lib.ListN.{length}
-use lib.Dec.{leb}
-use borrow.Author.Tests.{eq-eqb, ne-eqb, leb-true, not-true, not-false}
+use native.Mathlib.Omega.{arith}
+use lib.Dec.{leb, eqb}
+use borrow.Author.Tests.{eq-eqb, ne-eqb, eqb-true, leb-true, not-true, not-false}
 use Rattle.text.specs.Bytes.{Text}
+use Rattle.path.proofs.Pieces.{by-test}
 use Rattle.book.specs.declared.Cmd.{Cmd}
 use Rattle.text.specs.Text.{someOf}
 use Rattle.book.specs.Command.{begin, key}
-use Rattle.book.specs.Rules.{inOrder, goodString, tooMany, givenBefore, faultOf, textOf}
+use Rattle.book.specs.Rules.{inOrder, goodString, tooMany, givenBefore, clash, faultOf, textOf}
 use Rattle.book.specs.State.{meets, number}
 
 pub good-within : (text : Text) (c : Cmd) → goodString text c ≡ true → c .start + c .len ≤ length text
@@ -50,13 +52,44 @@ module _ (text : Text) (count : ℕ → ℕ) (last n : ℕ) (keys paths : List T
           unfolding givenBefore meets
           fault-path o d b e = sym (rest ∙ rw (eq-eqb _ _ o, ← is, ← e, d) refl)
 
-          pub fault-key : (c .op ≡ begin → ⊥) → c .op ≡ key → r ≡ someOf (meets false s) keys → (b : Bool) → r ≡ b → number (cond b (some 6) none) ≡ number (faultOf text count last n keys paths c)
-          unfolding givenBefore meets
-          fault-key m o d b e = sym (rest ∙ rw (ne-eqb _ _ m, eq-eqb _ _ o, ← is, ← e, d) refl)
+        pub fault-none : (c .op ≡ begin → ⊥) → keys ≡ [] → 0 ≡ number (faultOf text count last n keys paths c)
+        unfolding givenBefore someOf
+        fault-none m y = sym (rest ∙ by-test (eqb (c .op) key) (λ k. rw (ne-eqb _ _ m, k, y) refl) (λ k. rw (ne-eqb _ _ m, k) refl))
 
-        pub fault-none : (c .op ≡ begin → ⊥) → (c .op ≡ key → ⊥) → 0 ≡ number (faultOf text count last n keys paths c)
-        unfolding givenBefore
-        fault-none m o = sym (rest ∙ rw (ne-eqb _ _ m, ne-eqb _ _ o) refl)
+-- a command's fault, told but for the keys before it
+module _ (text : Text) (count : ℕ → ℕ) (last n : ℕ) (keys paths : List Text) (c : Cmd) where
+  pub fault-kept : (f : ℕ) → f ≡ number (faultOf text count last n [] paths c) → (f ≡ 0 → ⊥) → f ≡ number (faultOf text count last n keys paths c)
+  unfolding faultOf givenBefore someOf
+  fault-kept f e z =
+      by-test (inOrder count last c)
+      (λ a. by-test (goodString text c)
+      (λ b. by-test (tooMany count last c n)
+      (λ d. let y : f ≡ 5 = rw (a, b, d) at e in rw (a, b, d) y)
+      (λ d. by-test (eqb (c .op) begin)
+      (λ g. let y : f ≡ number (cond (someOf (clash (textOf text c)) paths) (some 6) none) = rw (a, b, d, g) at e in rw (a, b, d, g) y)
+      (λ g. by-test (eqb (c .op) key)
+      (λ k. let y : f ≡ 0 = rw (a, b, d, g, k) at e in absurd (z y))
+      (λ k. let y : f ≡ 0 = rw (a, b, d, g, k) at e in absurd (z y)))))
+      (λ b. let y : f ≡ 4 = rw (a, b) at e in rw (a, b) y))
+      (λ a. let y : f ≡ 3 = rw a at e in rw a y)
+
+  -- where it has none but for the keys, it has one where it is a key given before
+  pub fault-given : number (faultOf text count last n [] paths c) ≡ 0 → number (faultOf text count last n keys paths c) ≡ number (cond (cond (eqb (c .op) key) (someOf (meets false (textOf text c)) keys) false) (some 6) none)
+  unfolding faultOf givenBefore someOf meets
+  fault-given z =
+      by-test (inOrder count last c)
+      (λ a. by-test (goodString text c)
+      (λ b. by-test (tooMany count last c n)
+      (λ d. let y : 5 ≡ 0 = rw (a, b, d) at z in absurd (omega (arith, y)))
+      (λ d. by-test (eqb (c .op) begin)
+      (λ g. by-test (someOf (clash (textOf text c)) paths)
+      (λ h. let y : 6 ≡ 0 = rw (a, b, d, g, h) at z in absurd (omega (arith, y)))
+      (λ h. let o : c .op ≡ begin = eqb-true (c .op) begin g in rw (a, b, d, g, h, ne-eqb (c .op) key (λ q. absurd (omega (arith, o, q)))) refl))
+      (λ g. by-test (eqb (c .op) key)
+      (λ k. rw (a, b, d, g, k) refl)
+      (λ k. rw (a, b, d, g, k) refl))))
+      (λ b. let y : 4 ≡ 0 = rw (a, b) at z in absurd (omega (arith, y))))
+      (λ a. let y : 3 ≡ 0 = rw a at z in absurd (omega (arith, y)))
 
 pub bad-string :
     (text : Text) (count : ℕ → ℕ) (last n : ℕ) (keys paths : List Text) (c : Cmd) (r₁ : Bool) → r₁ ≡ inOrder count last c → not r₁ ≡ false →

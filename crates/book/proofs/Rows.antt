@@ -2,7 +2,7 @@
 use mathlib.Core.Path.{_≡_, refl, sym, ap, ap₂, _∙_}
 use mathlib.Core.List.{List, [], _∷_, _++_}
 use mathlib.Core.Bool.{Bool, true, false, _&&_, _||_, cond, or-false, true≢false}
-use Prim.Native.Nat.{ℕ, zero, suc, _-_, _≤_, _<_}
+use Prim.Native.Nat.{ℕ, zero, suc, _+_, _-_, _≤_, _<_}
 use native.Mathlib.Omega.{arith}
 use lib.ListN.{length, getD, take, drop, length-append, length-drop}
 use lib.Seq.{length-take-le}
@@ -14,6 +14,7 @@ use Rattle.strings.specs.Strings.{covers}
 use Rattle.strings.specs.Scan.{digestFrom}
 use Rattle.text.proofs.Scans.{prefix-short, same-length}
 use Rattle.text.proofs.Picks.{by-test}
+use Rattle.book.specs.Command.{key}
 use Rattle.book.specs.Rules.{clash}
 use Rattle.book.specs.State.{texts, meets, Table, Marked}
 
@@ -82,6 +83,14 @@ module _ (paths : Bool) (a b : Text) (r : Bool) where
 pub meet-not : (paths : Bool) (a b : Text) → paths ≡ false → (length a ≡ length b → ⊥) → false ≡ meets paths a b
 unfolding meets
 meet-not paths a b f h = rw (f, same-length a b h)
+
+-- how many keys there are after a key with the string s, which was tested against those before
+module _ (op m : ℕ) (s t : Text) (keys : List Text) (r : Bool) (o : op ≡ key) (e : s ≡ t) (d : r ≡ someOf (meets false s) keys) where
+  pub rows-met : r ≡ true → 33 ≡ cond (eqb op key) (cond (someOf (meets false t) keys) 33 (m + 1)) m
+  rows-met y = rw (eq-eqb op key o, ← e, ← d, y) refl
+
+  pub rows-new : r ≡ false → m + 1 ≡ cond (eqb op key) (cond (someOf (meets false t) keys) 33 (m + 1)) m
+  rows-new y = rw (eq-eqb op key o, ← e, ← d, y) refl
 
 -- Two strings that cannot meet
 

@@ -22,7 +22,8 @@ use Rattle.book.specs.Rules.{slot, tally, inRange, inOrder, opened, fres
 use Rattle.book.specs.Record.{only, firstOf, single, recordPathOf}
 use Rattle.book.specs.Book.{judge, next, finish}
 use Rattle.book.specs.Index.{upToEnd, beginsOf}
-use Rattle.book.specs.State.{has, pushed, Agrees, Slotted, texts, Table, Marked, number}
+use Rattle.text.specs.Text.{someOf}
+use Rattle.book.specs.State.{has, pushed, Agrees, Slotted, texts, Table, Marked, meets, number}
 use Rattle.strings.specs.Scan.{digestFrom}
 use Rattle.book.specs.Checks.{Held, ClosedAs}
 use Rattle.book.specs.Steps.{stepAt}
@@ -30,7 +31,7 @@ use Rattle.book.proofs.Steps.{decoded, decode-step, Moved, step-moves, 
 use Rattle.text.proofs.Picks.{by-test}
 use Rattle.book.proofs.Keeps.{in-slot, agree-push, agree-none, limits-small, slot-key}
 use Rattle.book.proofs.Table.{at-each}
-use Rattle.book.proofs.Faults.{good-within}
+use Rattle.book.proofs.Faults.{good-within, fault-kept, fault-given}
 
 -- what a command without a fault is
 pub record Clear (text : Text) (count : ℕ → ℕ) (last n : ℕ) (keys paths : List Text) (c : Cmd) : Type 0 where
@@ -328,8 +329,8 @@ module _ (part : Text) (base : ℕ) (text : Text) (ps pl : List ℕ) (n : ℕ) w
           pub turn-closed : c .op ≡ end → (start len : ℕ) → start ≡ word part 1 → len ≡ word part 3 → ClosedAs part base text ps pl n (base + nx .at) start len
           turn-closed q start len a b = rw (a, b) (closed-here q)
 
-          pub key-room : c .op ≡ key → m < 32
-          key-room y = subst (λ (j : ℕ). j < 32) (sym (s .count)) (keys-few (has ns) last c (is-clear .order) n y (is-clear .few))
+          room-left : c .op ≡ key → m < 32
+          room-left y = subst (λ (j : ℕ). j < 32) (sym (s .count)) (keys-few (has ns) last c (is-clear .order) n y (is-clear .few))
 
           module _ {k : ℕ} (sl : Slotted k c) where
             pub slot-small : k < 39
@@ -361,7 +362,7 @@ module _ (part : Text) (base : ℕ) (text : Text) (ps pl : List ℕ) (n : ℕ) w
                 keyed =
                     by-test (eqb (c .op) key)
                     (λ y.
-                    let r = key-room (eqb-true (c .op) key y) in
+                    let r = room-left (eqb-true (c .op) key y) in
                     rw (am, ak, al, ad, y)
                     record {
                       keys = rw y (ap (λ (l : List Text). take (c .len) (drop (c .start) text) ∷ l) (s .keys) ∙ sym (texts-put 32 (omega arith) text ks kl m (c .start) (c .len) (s .table) within-text r (s .rows .0) (s .rows .1 .0)));
@@ -435,6 +436,50 @@ module _ (part : Text) (base : ℕ) (text : Text) (ps pl : List ℕ) (n : ℕ) w
 
           pub turn-less : length part - nx .at < length part - at
           turn-less = omega (arith, moved .forth, moved .within)
+
+      -- f is what is wrong with the command but for the keys before it
+      module _ {f : ℕ} (d : f ≡ number (faultOf text (has ns) last n [] (texts text ps pl n) c)) where
+        pub turn-refused : (f ≡ 0 → ⊥) → (records : List (List Cmd)) → Held text ps pl n records → judge text (record { records = records; here = [] }) (decode 0 base part) ≡ refused f (base + at)
+        turn-refused z = turn-fault (fault-kept text (has ns) last n (texts text ks kl m) (texts text ps pl n) c f d z) z
+
+        module _ (z : f ≡ 0) where
+          pub key-room : c .op ≡ key → m < 32
+          key-room y =
+              let w = clear text (has ns) last n [] (texts text ps pl n) c (sym d ∙ z) in
+              subst (λ (j : ℕ). j < 32) (sym (s .count)) (keys-few (has ns) last c (w .order) n y (w .few))
+
+          -- m′ is how many keys there are then, 33 where the command is a key given before
+          module _ {m′ : ℕ} (am : m′ ≡ cond (eqb (c .op) key) (cond (someOf (meets false (textOf text c)) (texts text ks kl m)) 33 (m + 1)) m) where
+            given : number (faultOf text (has ns) last n (texts text ks kl m) (texts text ps pl n) c) ≡ number (cond (cond (eqb (c .op) key) (someOf (meets false (textOf text c)) (texts text ks kl m)) false) (some 6) none)
+            given = fault-given text (has ns) last n (texts text ks kl m) (texts text ps pl n) c (sym d ∙ z)
+
+            sixth : m′ ≡ 33 → 6 ≡ number (faultOf text (has ns) last n (texts text ks kl m) (texts text ps pl n) c)
+            sixth q =
+                by-test (eqb (c .op) key)
+                (λ k. by-test (someOf (meets false (textOf text c)) (texts text ks kl m))
+                (λ g. sym (given ∙ rw (k, g) refl))
+                (λ g. let y : m′ ≡ m + 1 = rw (k, g) at am in absurd (omega (arith, y, q, key-room (eqb-true (c .op) key k)))))
+                (λ k. let y : m′ ≡ m = rw k at am in absurd (omega (arith, y, q, s .table .starts-there, s .rows .0)))
+
+            pub turn-met : m′ ≡ 33 → (records : List (List Cmd)) → Held text ps pl n records → judge text (record { records = records; here = [] }) (decode 0 base part) ≡ refused 6 (base + at)
+            turn-met q = turn-fault (sixth q) (λ h. absurd (omega (arith, h)))
+
+            module _ (q : m′ ≡ 33 → ⊥) where
+              pub clear-on : 0 ≡ number (faultOf text (has ns) last n (texts text ks kl m) (texts text ps pl n) c)
+              clear-on =
+                  by-test (eqb (c .op) key)
+                  (λ k. by-test (someOf (meets false (textOf text c)) (texts text ks kl m))
+                  (λ g. let y : m′ ≡ 33 = rw (k, g) at am in absurd (q y))
+                  (λ g. sym (given ∙ rw (k, g) refl)))
+                  (λ k. sym (given ∙ rw k refl))
+
+              pub rows-on : m′ ≡ cond (eqb (c .op) key) (m + 1) m
+              rows-on =
+                  by-test (eqb (c .op) key)
+                  (λ k. by-test (someOf (meets false (textOf text c)) (texts text ks kl m))
+                  (λ g. let y : m′ ≡ 33 = rw (k, g) at am in absurd (q y))
+                  (λ g. let y : m′ ≡ m + 1 = rw (k, g) at am in rw k y))
+                  (λ k. let y : m′ ≡ m = rw k at am in rw k y)
 
   -- before the first command
   pub sofar-none : (ns : List ℕ) (last : ℕ) (ks kl km : List ℕ) → ns ≡ replicate 39 0 → last ≡ 0 → length ks ≡ 32 → length kl ≡ 32 → length km ≡ 32 → Sofar ns last ks kl km 0 0

@@ -9,13 +9,15 @@ use strings::obeys_lead;
 use text::from;
 use text::upto;
 ghost use mathlib.Core.Path.{_≡_};
+ghost use mathlib.Core.List.{[]};
 ghost use mathlib.Core.Bool.{true, false, not, _||_, cond};
 ghost use Prim.Native.Nat.{_+_, _*_, _<_, _≤_};
 ghost use lib.ListN.{length, getD, set, take, drop};
-ghost use lib.Dec.{eqb, ltb};
+ghost use lib.Dec.{eqb};
 ghost use Rattle.text.specs.Text.{someOf};
+ghost use Rattle.strings.specs.Strings.{recordPath, leadRule};
 ghost use Rattle.strings.specs.Scan.{tameText, digestFrom};
-ghost use Rattle.book.specs.Command.{key, target, flag, widthOf, word, operands};
+ghost use Rattle.book.specs.Command.{begin, key, target, widthOf, word, operands};
 ghost use Rattle.book.specs.Rules.{slot, openers, limits, inOrder, tooMany, textOf, ownRule, goodString, faultOf};
 ghost use Rattle.book.specs.Steps.{stepAt};
 ghost use Rattle.book.specs.State.{Slotted, has, pushed, texts, Table, Marked, meets, number};
@@ -64,6 +66,9 @@ pub const TEXT_OPTION: u8 = 0x13;
 
 pub const END: u8 = 0x14;
 
+// The bytes of a string's start and length.
+const SPAN: usize = 4;
+
 const MOST_COMMANDS: usize = 32768;
 
 const MOST_TEXT: usize = 65535;
@@ -82,6 +87,9 @@ const FLAG_SLOTS: usize = 21;
 const TEXT_SLOTS: usize = 32;
 
 const SLOTS: usize = 39;
+
+// Stands for a number of keys where a key was given before: a record may have 32.
+const MET: usize = 33;
 
 // A command: its byte, the id and value of a flag, the id of a text option, and start and length of its string. What it has not is 0.
 pub struct Cmd {
@@ -112,26 +120,37 @@ fn wide(x: u8) -> usize
     x as usize
 }
 
-// The operand bytes of a command that is not without, no flag and no text option: those of a string; 9 for an unknown byte.
-fn string_width(op: u8) -> usize
-    ensures { λ r. ⌜ r ≡ cond (ltb op flag) 4 9 ⌝ }
+// Whether a command's operands are a string and nothing else, as most commands' are.
+fn is_spanned(op: u8) -> bool
+    ensures { λ r. ⌜ r ≡ eqb (widthOf op) 4 ⌝ }
 {
-    if FLAG <= op {
-        return 9;
+    match op {
+        BEGIN
+        | FILE
+        | INCLUDE_ITEM
+        | EXCLUDE_ITEM
+        | EXTENDS
+        | BASE_URL
+        | KEY
+        | TARGET
+        | REFERENCE
+        | ROOT_DIR
+        | OUT_DIR
+        | DECLARATION_DIR => true,
+        _ => false,
     }
-    4
 }
 
-// The operand bytes of a command; 9 for an unknown byte.
+// The operand bytes of any other command; 9 for an unknown byte.
 fn width(op: u8) -> usize
+    requires { ⌜ eqb (widthOf op) 4 ≡ false ⌝ }
     ensures { λ r. ⌜ r ≡ widthOf op ⌝ }
 {
     match op {
         FILES | INCLUDE | EXCLUDE | PATHS | ROOT_DIRS | END => 0,
         FLAG => 2,
         TEXT_OPTION => 5,
-        0 => 9,
-        _ => string_width(op),
+        _ => 9,
     }
 }
 
@@ -143,23 +162,29 @@ fn word_at(s: &[u8], at: usize) -> usize
     wide(s[at]) + wide(s[at + 1]) * 256
 }
 
-// The command at the head of s, whose w operand bytes are there.
+// The command at the head of s, whose operands are a string, which is there.
+fn read_span(s: &[u8]) -> Cmd
+    requires { ⌜ 4 < length (now s) ⌝ }
+    ensures { λ r. ⌜ r ≡ operands 4 (now (s .entry)) ⌝ }
+{
+    let op = s[0];
+    let start = word_at(s, 1);
+    let len = word_at(s, 3);
+    Cmd {
+        op: op,
+        id: 0,
+        value: 0,
+        start: start,
+        len: len,
+    }
+}
+
+// The command at the head of s, whose w operand bytes are there, where they are not a string alone.
 fn read(s: &[u8], w: usize) -> Cmd
-    requires { ⌜ w < length (now s) ⌝ }
+    requires { ⌜ (w < length (now s)) × (w ≡ 4 → ⊥) ⌝ }
     ensures { λ r. ⌜ r ≡ operands w (now (s .entry)) ⌝ }
 {
     let op = s[0];
-    if w == 4 {
-        let start = word_at(s, 1);
-        let len = word_at(s, 3);
-        return Cmd {
-            op: op,
-            id: 0,
-            value: 0,
-            start: start,
-            len: len,
-        };
-    }
     if w == 5 {
         let id = s[1];
         let start = word_at(s, 2);
@@ -201,7 +226,17 @@ impl Cursor {
         if commands.len() <= at {
             return Step::End;
         }
-        let w = width(commands[at]);
+        let op = commands[at];
+        if is_spanned(op) {
+            if commands.len() - at <= SPAN {
+                return Step::Broken;
+            }
+            let span = from(commands, at);
+            let c = read_span(span);
+            let after = at + SPAN + 1;
+            return Step::Command(c, Cursor { at: after });
+        }
+        let w = width(op);
         if w == 9 {
             return Step::Broken;
         }
@@ -229,27 +264,27 @@ pub fn string_of(text: &[u8], c: Cmd) -> &[u8]
     piece(text, c.start, c.len)
 }
 
+// The rule of the string of a BEGIN, an extends entry or a reference.
+fn path_rule(tame: bool, op: u8, s: &[u8]) -> bool
+    requires { ⌜ (tame ≡ true → tameText (now s) ≡ true) ⌝ }
+    ensures { λ r. ⌜ r ≡ cond (eqb op begin) (recordPath (now (s .entry))) (leadRule (now (s .entry))) ⌝ }
+{
+    if op == BEGIN {
+        return is_record_path_of(tame, s);
+    }
+    obeys_lead(s)
+}
+
 // The rule of its own that a command's string has.
 fn own_rule(tame: bool, op: u8, s: &[u8]) -> bool
     requires { ⌜ (tame ≡ true → tameText (now s) ≡ true) ⌝ }
     ensures { λ r. ⌜ r ≡ ownRule op (now (s .entry)) ⌝ }
 {
-    if op == BEGIN {
-        return is_record_path_of(tame, s);
+    match op {
+        INCLUDE_ITEM | EXCLUDE_ITEM => is_pattern_of(tame, s),
+        BEGIN | EXTENDS | REFERENCE => path_rule(tame, op, s),
+        _ => true,
     }
-    if op == EXTENDS {
-        return obeys_lead(s);
-    }
-    if op == REFERENCE {
-        return obeys_lead(s);
-    }
-    if op == INCLUDE_ITEM {
-        return is_pattern_of(tame, s);
-    }
-    if op == EXCLUDE_ITEM {
-        return is_pattern_of(tame, s);
-    }
-    true
 }
 
 // Whether a command's string lies in the text and keeps its rules: refusal 4 where not.
@@ -450,7 +485,7 @@ fn may_meet(paths: bool, size: usize, len: usize, mark: u8, other: u8) -> bool
     paths
 }
 
-// Whether one of the strings of the first n rows, whose digests are the marks, meets s.
+// Whether one of the strings of the first n rows, whose digests are the marks, meets s, whose digest is given.
 fn is_met(
     paths: bool,
     text: &[u8],
@@ -459,12 +494,13 @@ fn is_met(
     marks: &[u8],
     n: usize,
     s: &[u8],
+    mark: u8,
 ) -> bool
     requires { ⌜ Table (now text) (now starts) (now lens) n ⌝ }
     requires { ⌜ Marked (now text) (now starts) (now lens) (now marks) n ⌝ }
+    requires { ⌜ mark ≡ digestFrom 0 (now s) ⌝ }
     ensures { λ r. ⌜ r ≡ someOf (meets paths (now (s .entry))) (texts (now (text .entry)) (now (starts .entry)) (now (lens .entry)) n) ⌝ }
 {
-    let mark = digest(s);
     let size = s.len();
     let mut i = n;
     while 0 < i {
@@ -483,7 +519,7 @@ fn is_met(
     false
 }
 
-// The lowest refusal of a command, 0 for none. Before it stand m keys in its record, with starts ks, lengths kl and digests km, and n records.
+// The lowest refusal of a command, 0 for none; a key is not held against those before. Before it stand n records.
 fn fault_of(
     tame: bool,
     text: &[u8],
@@ -491,10 +527,6 @@ fn fault_of(
     last: u8,
     c: Cmd,
     k: usize,
-    ks: &[usize],
-    kl: &[usize],
-    km: &[u8],
-    m: usize,
     starts: &[usize],
     lens: &[usize],
     marks: &[u8],
@@ -502,9 +534,8 @@ fn fault_of(
 ) -> u32
     requires { ⌜ (c .op < 21) × (Slotted k c × (length (now counts) ≡ 39)) ⌝ }
     requires { ⌜ (tame ≡ true → tameText (now text) ≡ true) ⌝ }
-    requires { ⌜ Table (now text) (now ks) (now kl) m × Marked (now text) (now ks) (now kl) (now km) m ⌝ }
     requires { ⌜ Table (now text) (now starts) (now lens) n × Marked (now text) (now starts) (now lens) (now marks) n ⌝ }
-    ensures { λ r. ⌜ r ≡ number (faultOf (now (text .entry)) (has (now (counts .entry))) last n (texts (now (text .entry)) (now (ks .entry)) (now (kl .entry)) m) (texts (now (text .entry)) (now (starts .entry)) (now (lens .entry)) n) c) ⌝ }
+    ensures { λ r. ⌜ r ≡ number (faultOf (now (text .entry)) (has (now (counts .entry))) last n [] (texts (now (text .entry)) (now (starts .entry)) (now (lens .entry)) n) c) ⌝ }
 {
     if !in_order(counts, last, c, k) {
         return 3;
@@ -518,14 +549,8 @@ fn fault_of(
     let op = c.op;
     if op == BEGIN {
         let s = string_of(text, c);
-        if is_met(true, text, starts, lens, marks, n, s) {
-            return 6;
-        }
-        return 0;
-    }
-    if op == KEY {
-        let s = string_of(text, c);
-        if is_met(false, text, ks, kl, km, m, s) {
+        let mark = digest(s);
+        if is_met(true, text, starts, lens, marks, n, s, mark) {
             return 6;
         }
         return 0;
@@ -533,7 +558,7 @@ fn fault_of(
     0
 }
 
-// A key's row put into the table; how many rows there are then.
+// A key's row put into the table, whose digests are km; how many rows there are then, or MET where the key was given before.
 fn put_key(
     text: &[u8],
     ks: &mut [usize],
@@ -543,7 +568,8 @@ fn put_key(
     c: Cmd,
 ) -> usize
     requires { ⌜ (c .op ≡ key → (m < 32)) × ((length (now ks) ≡ 32) × ((length (now kl) ≡ 32) × (length (now km) ≡ 32))) ⌝ }
-    ensures { λ r. ⌜ r ≡ cond (eqb (c .op) key) (m + 1) m ⌝ }
+    requires { ⌜ Table (now text) (now ks) (now kl) m × Marked (now text) (now ks) (now kl) (now km) m ⌝ }
+    ensures { λ r. ⌜ r ≡ cond (eqb (c .op) key) (cond (someOf (meets false (textOf (now (text .entry)) c)) (texts (now (text .entry)) (now (ks .entry)) (now (kl .entry)) m)) 33 (m + 1)) m ⌝ }
     ensures { λ r. ⌜ now (ks .exit) ≡ cond (eqb (c .op) key) (set (now (ks .entry)) m (c .start)) (now (ks .entry)) ⌝ }
     ensures { λ r. ⌜ now (kl .exit) ≡ cond (eqb (c .op) key) (set (now (kl .entry)) m (c .len)) (now (kl .entry)) ⌝ }
     ensures { λ r. ⌜ now (km .exit) ≡ cond (eqb (c .op) key) (set (now (km .entry)) m (digestFrom 0 (textOf (now (text .entry)) c))) (now (km .entry)) ⌝ }
@@ -554,9 +580,13 @@ fn put_key(
     }
     let s = string_of(text, c);
     let mark = digest(s);
+    let met = is_met(false, text, ks, kl, km, m, s, mark);
     ks[m] = c.start;
     kl[m] = c.len;
     km[m] = mark;
+    if met {
+        return MET;
+    }
     m + 1
 }
 
@@ -597,24 +627,13 @@ fn check_record(
             Step::Broken => return Checked::Refused(2, place),
             Step::Command(c, next) => {
                 let k = slot_of(c);
-                let f = fault_of(
-                    tame,
-                    text,
-                    &counts,
-                    last,
-                    c,
-                    k,
-                    &ks,
-                    &kl,
-                    &km,
-                    m,
-                    starts,
-                    lens,
-                    marks,
-                    n,
-                );
+                let f = fault_of(tame, text, &counts, last, c, k, starts, lens, marks, n);
                 if f != 0 {
                     return Checked::Refused(f, place);
+                }
+                let rows = put_key(text, &mut ks, &mut kl, &mut km, m, c);
+                if rows == MET {
+                    return Checked::Refused(6, place);
                 }
                 let op = c.op;
                 if op == END {
@@ -623,7 +642,7 @@ fn check_record(
                     let len = word_at(part, 3);
                     return Checked::Closed(end, start, len);
                 }
-                m = put_key(text, &mut ks, &mut kl, &mut km, m, c);
+                m = rows;
                 last = push(&mut counts, c, k);
                 cursor = next;
             }

@@ -4,9 +4,6 @@ use native.Mathlib.Omega.{arith}
 use borrow.Author.Needs.{needs}
 use Rattle.book.proofs.do_meet.Statement.{statement}
 use Rattle.book.proofs.do_meet.Tie as tie
-use Rattle.book.proofs.do_meet.Reads as reads
-use Rattle.book.proofs.do_meet.Lts as lts
-use Rattle.strings.proofs.covers.Reads as covers-reads
 
 covers-requires : tie.Need-covers-requires
 covers-requires c κs = search needs

@@ -2,7 +2,7 @@ use mathlib.Core.Path.{refl, sym, _∙_}
 use mathlib.Core.Bool.{true, false}
 use borrow.Author.Tests.{not-false}
 use Rattle.book.proofs.Keeps.{in-slot, many-any}
-use Rattle.book.proofs.Faults.{out-of-order, bad-string, fault-many, fault-path, fault-key, fault-none}
+use Rattle.book.proofs.Faults.{out-of-order, bad-string, fault-many, fault-path, fault-none}
 use borrow.Author.Needs.{needs}
 use Rattle.book.proofs.fault_of.Statement.{statement}
 use Rattle.book.proofs.fault_of.Tie as tie
@@ -20,7 +20,7 @@ returns-2 : tie.Need-returns-2
 returns-2 c = search (needs, bad-string)
 
 is-too-many-requires : tie.Need-is-too-many-requires
-is-too-many-requires c κs = let s = in-slot _ _ _ (sym (c .before .before .before .in-order .ensures) ∙ not-false _ (c .before .before .if1 .left)) _ (c .before .before .before .before .before .before .before .before .before .before .before .before .pre .0 .1 .0) in (c .before .before .before .before .before .before .before .before .before .before .before .before .pre .0 .0, (s .0, (s .1, c .before .before .before .before .before .before .before .before .before .before .before .before .pre .0 .1 .1)))
+is-too-many-requires c κs = let s = in-slot _ _ _ (sym (c .before .before .before .in-order .ensures) ∙ not-false _ (c .before .before .if1 .left)) _ (c .before .before .before .before .before .before .before .before .before .pre .0 .1 .0) in (c .before .before .before .before .before .before .before .before .before .pre .0 .0, (s .0, (s .1, c .before .before .before .before .before .before .before .before .before .pre .0 .1 .1)))
 
 returns-3 : tie.Need-returns-3
 returns-3 c = fault-many _ _ _ _ _ _ _ _ (c .before .before .before .before .before .in-order .ensures) (not-false _ (c .before .before .before .before .if1 .left)) _ (c .before .before .before .good-string .ensures) (not-false _ (c .before .before .if2 .left)) _ (c .before .is-too-many .ensures ∙ many-any _ _ _ _ _) (c .if3 .taken)
@@ -28,29 +28,20 @@ returns-3 c = fault-many _ _ _ _ _ _ _ _ (c .before .before .before .before .bef
 string-of-requires : tie.Need-string-of-requires
 string-of-requires c κs = search needs
 
+digest-requires : tie.Need-digest-requires
+digest-requires c κs = search needs
+
 is-met-requires : tie.Need-is-met-requires
-is-met-requires c κs = c .before .before .before .before .before .before .before .before .before .before .before .before .before .before .before .before .pre .1 .1 .1
+is-met-requires c κs = (c .before .before .before .before .before .before .before .before .before .before .before .before .before .before .pre .1 .1 .0, (c .before .before .before .before .before .before .before .before .before .before .before .before .before .before .pre .1 .1 .1, c .digest .ensures))
 
 returns-4 : tie.Need-returns-4
-returns-4 c = fault-path _ _ _ _ _ _ _ _ (c .before .before .before .before .before .before .before .before .before .in-order .ensures) (not-false _ (c .before .before .before .before .before .before .before .before .if1 .left)) _ (c .before .before .before .before .before .before .before .good-string .ensures) (not-false _ (c .before .before .before .before .before .before .if2 .left)) _ (c .before .before .before .before .before .is-too-many .ensures ∙ many-any _ _ _ _ _) (c .before .before .before .before .if3 .left) _ (c .before .before .string-of .ensures) _ (c .before .before .before .if4 .taken) (c .before .is-met .ensures) true (c .if5 .taken)
+returns-4 c = fault-path _ _ _ _ _ _ _ _ (c .before .before .before .before .before .before .before .before .before .before .in-order .ensures) (not-false _ (c .before .before .before .before .before .before .before .before .before .if1 .left)) _ (c .before .before .before .before .before .before .before .before .good-string .ensures) (not-false _ (c .before .before .before .before .before .before .before .if2 .left)) _ (c .before .before .before .before .before .before .is-too-many .ensures ∙ many-any _ _ _ _ _) (c .before .before .before .before .before .if3 .left) _ (c .before .before .before .string-of .ensures) _ (c .before .before .before .before .if4 .taken) (c .before .is-met .ensures) true (c .if5 .taken)
 
 returns-5 : tie.Need-returns-5
-returns-5 c = fault-path _ _ _ _ _ _ _ _ (c .before .before .before .before .before .before .before .before .before .in-order .ensures) (not-false _ (c .before .before .before .before .before .before .before .before .if1 .left)) _ (c .before .before .before .before .before .before .before .good-string .ensures) (not-false _ (c .before .before .before .before .before .before .if2 .left)) _ (c .before .before .before .before .before .is-too-many .ensures ∙ many-any _ _ _ _ _) (c .before .before .before .before .if3 .left) _ (c .before .before .string-of .ensures) _ (c .before .before .before .if4 .taken) (c .before .is-met .ensures) false (c .if5 .left)
-
-string-of-requires-2 : tie.Need-string-of-requires-2
-string-of-requires-2 c κs = search needs
-
-is-met-requires-2 : tie.Need-is-met-requires-2
-is-met-requires-2 c κs = c .before .before .before .before .before .before .before .before .before .before .before .before .before .before .before .before .before .pre .1 .1 .0
+returns-5 c = fault-path _ _ _ _ _ _ _ _ (c .before .before .before .before .before .before .before .before .before .before .in-order .ensures) (not-false _ (c .before .before .before .before .before .before .before .before .before .if1 .left)) _ (c .before .before .before .before .before .before .before .before .good-string .ensures) (not-false _ (c .before .before .before .before .before .before .before .if2 .left)) _ (c .before .before .before .before .before .before .is-too-many .ensures ∙ many-any _ _ _ _ _) (c .before .before .before .before .before .if3 .left) _ (c .before .before .before .string-of .ensures) _ (c .before .before .before .before .if4 .taken) (c .before .is-met .ensures) false (c .if5 .left)
 
 returns-6 : tie.Need-returns-6
-returns-6 c = fault-key _ _ _ _ _ _ _ _ (c .before .before .before .before .before .before .before .before .before .before .in-order .ensures) (not-false _ (c .before .before .before .before .before .before .before .before .before .if1 .left)) _ (c .before .before .before .before .before .before .before .before .good-string .ensures) (not-false _ (c .before .before .before .before .before .before .before .if2 .left)) _ (c .before .before .before .before .before .before .is-too-many .ensures ∙ many-any _ _ _ _ _) (c .before .before .before .before .before .if3 .left) _ (c .before .before .string-of2 .ensures) _ (c .before .before .before .before .if4 .left) (c .before .before .before .if6 .taken) (c .before .is-met2 .ensures) true (c .if7 .taken)
-
-returns-7 : tie.Need-returns-7
-returns-7 c = fault-key _ _ _ _ _ _ _ _ (c .before .before .before .before .before .before .before .before .before .before .in-order .ensures) (not-false _ (c .before .before .before .before .before .before .before .before .before .if1 .left)) _ (c .before .before .before .before .before .before .before .before .good-string .ensures) (not-false _ (c .before .before .before .before .before .before .before .if2 .left)) _ (c .before .before .before .before .before .before .is-too-many .ensures ∙ many-any _ _ _ _ _) (c .before .before .before .before .before .if3 .left) _ (c .before .before .string-of2 .ensures) _ (c .before .before .before .before .if4 .left) (c .before .before .before .if6 .taken) (c .before .is-met2 .ensures) false (c .if7 .left)
-
-returns-8 : tie.Need-returns-8
-returns-8 c = fault-none _ _ _ _ _ _ _ _ (c .before .before .before .before .before .before .before .in-order .ensures) (not-false _ (c .before .before .before .before .before .before .if1 .left)) _ (c .before .before .before .before .before .good-string .ensures) (not-false _ (c .before .before .before .before .if2 .left)) _ (c .before .before .before .is-too-many .ensures ∙ many-any _ _ _ _ _) (c .before .before .if3 .left) _ refl (c .before .if4 .left) (c .if6 .left)
+returns-6 c = fault-none _ _ _ _ _ _ _ _ (c .before .before .before .before .before .before .in-order .ensures) (not-false _ (c .before .before .before .before .before .if1 .left)) _ (c .before .before .before .before .good-string .ensures) (not-false _ (c .before .before .before .if2 .left)) _ (c .before .before .is-too-many .ensures ∙ many-any _ _ _ _ _) (c .before .if3 .left) _ refl (c .if4 .left) refl
 
 pub fault-of-spec : {M : Type 1} → statement M
 fault-of-spec =
@@ -63,11 +54,8 @@ fault-of-spec =
     is-too-many-requires
     returns-3
     string-of-requires
+    digest-requires
     is-met-requires
     returns-4
     returns-5
-    string-of-requires-2
-    is-met-requires-2
-    returns-6
-    returns-7
-    returns-8)
+    returns-6)

@@ -15,9 +15,6 @@ Inv-loop paths text starts lens marks n s mark size i₀ i = (i ≤ n) × (someO
 abbrev μ-loop : tie.MeasureT-loop
 μ-loop paths text starts lens marks n s mark size i₀ i = i
 
-digest-requires : tie.Need-digest-requires Inv-loop μ-loop
-digest-requires c κs = search needs
-
 loop-holds : tie.Need-loop-holds Inv-loop μ-loop
 loop-holds c = (omega arith, refl)
 
@@ -25,13 +22,13 @@ sub-i : tie.Need-sub-i Inv-loop μ-loop
 sub-i c = omega arith
 
 mul-len : tie.Need-mul-len Inv-loop μ-loop
-mul-len c = omega (arith, c .before .before .before .before .before .before .before .before .pre .0 .small, c .before .loop .inv .0)
+mul-len c = omega (arith, c .before .before .before .before .before .before .before .pre .0 .small, c .before .loop .inv .0)
 
 shared-slice-read-len : tie.Need-shared-slice-read-len Inv-loop μ-loop
-shared-slice-read-len c = omega (arith, c .before .before .before .before .before .before .before .before .before .pre .0 .lens-there, c .before .before .loop .inv .0)
+shared-slice-read-len c = omega (arith, c .before .before .before .before .before .before .before .before .pre .0 .lens-there, c .before .before .loop .inv .0)
 
 shared-slice-read-other : tie.Need-shared-slice-read-other Inv-loop μ-loop
-shared-slice-read-other c = omega (arith, c .before .before .before .before .before .before .before .before .before .before .pre .1 .there, c .before .before .before .loop .inv .0)
+shared-slice-read-other c = omega (arith, c .before .before .before .before .before .before .before .before .before .pre .1 .0 .there, c .before .before .before .loop .inv .0)
 
 may-meet-requires : tie.Need-may-meet-requires Inv-loop μ-loop
 may-meet-requires c κs = search needs
@@ -40,13 +37,13 @@ loop-less : tie.Need-loop-less Inv-loop μ-loop
 loop-less c = omega arith
 
 loop-again : tie.Need-loop-again Inv-loop μ-loop
-loop-again c = (omega arith, c .before .before .before .before .before .loop .inv .1 ∙ row-skip (c .before .before .before .before .before .before .before .before .before .before .before .before .args .paths) (c .before .before .before .before .before .before .before .before .before .before .before .before .args .s .now) (c .before .before .before .before .before .before .before .before .before .before .before .before .args .text .now) (c .before .before .before .before .before .before .before .before .before .before .before .before .args .starts .now) (c .before .before .before .before .before .before .before .before .before .before .before .before .args .lens .now) (c .before .before .before .before .before .before .before .before .before .before .before .before .args .marks .now) (c .before .before .before .before .before .before .before .before .before .before .before .before .args .n) _ (c .before .before .before .before .before .before .before .before .before .before .before .before .pre .0) (c .before .before .before .before .before .before .before .before .before .before .before .before .pre .1) (c .before .before .before .before .loop-test .taken) (c .before .before .before .before .before .loop .inv .0) _ (c .before .before .before .before .before .before .digest .ensures) _ (c .before .may-meet .ensures) (not-true _ (c .if1 .taken)))
+loop-again c = (omega arith, c .before .before .before .before .before .loop .inv .1 ∙ row-skip (c .before .before .before .before .before .before .before .before .before .before .before .args .paths) (c .before .before .before .before .before .before .before .before .before .before .before .args .s .now) (c .before .before .before .before .before .before .before .before .before .before .before .args .text .now) (c .before .before .before .before .before .before .before .before .before .before .before .args .starts .now) (c .before .before .before .before .before .before .before .before .before .before .before .args .lens .now) (c .before .before .before .before .before .before .before .before .before .before .before .args .marks .now) (c .before .before .before .before .before .before .before .before .before .before .before .args .n) _ (c .before .before .before .before .before .before .before .before .before .before .before .pre .0) (c .before .before .before .before .before .before .before .before .before .before .before .pre .1 .0) (c .before .before .before .before .loop-test .taken) (c .before .before .before .before .before .loop .inv .0) _ (c .before .before .before .before .before .before .before .before .before .before .before .pre .1 .1) _ (c .before .may-meet .ensures) (not-true _ (c .if1 .taken)))
 
 mul-start : tie.Need-mul-start Inv-loop μ-loop
-mul-start c = omega (arith, c .before .before .before .before .before .before .before .before .before .before .before .before .pre .0 .small)
+mul-start c = omega (arith, c .before .before .before .before .before .before .before .before .before .before .before .pre .0 .small)
 
 shared-slice-read-start : tie.Need-shared-slice-read-start Inv-loop μ-loop
-shared-slice-read-start c = omega (arith, c .before .before .before .before .before .before .before .before .before .before .before .before .before .pre .0 .starts-there, c .before .before .before .before .before .before .loop .inv .0)
+shared-slice-read-start c = omega (arith, c .before .before .before .before .before .before .before .before .before .before .before .before .pre .0 .starts-there, c .before .before .before .before .before .before .loop .inv .0)
 
 piece-requires : tie.Need-piece-requires Inv-loop μ-loop
 piece-requires c κs = search needs
@@ -72,7 +69,6 @@ is-met-spec =
     (tie.spec
     Inv-loop
     μ-loop
-    digest-requires
     loop-holds
     sub-i
     mul-len

@@ -1,4 +1,5 @@
 use borrow.Author.Tests.{eq-eqb, ne-eqb}
+use Rattle.book.proofs.Rows.{rows-met, rows-new}
 use native.Mathlib.Omega.{arith}
 use borrow.Author.Needs.{needs}
 use Rattle.book.proofs.put_key.Statement.{statement}
@@ -13,23 +14,23 @@ string-of-requires c κs = search needs
 digest-requires : tie.Need-digest-requires
 digest-requires c κs = search needs
 
+is-met-requires : tie.Need-is-met-requires
+is-met-requires c κs = (c .before .before .before .before .before .before .before .before .before .before .pre .1 .0, (c .before .before .before .before .before .before .before .before .before .before .pre .1 .1, c .before .before .before .digest .ensures))
+
 mul-ks : tie.Need-mul-ks
-mul-ks c = omega (arith, c .before .before .before .before .before .before .before .pre .0 (c .before .before .if1 .left))
+mul-ks c = omega (arith, c .before .before .before .before .before .before .before .before .before .before .before .pre .0 .0 (c .before .before .before .before .before .before .if1 .left))
 
 slice-write-ks : tie.Need-slice-write-ks
-slice-write-ks c = omega (arith, c .before .before .before .before .before .before .before .pre .0 (c .before .before .if1 .left))
+slice-write-ks c = omega (arith, c .before .before .before .before .before .before .before .before .before .before .before .pre .0 .0 (c .before .before .before .before .before .before .if1 .left))
 
 mul-kl : tie.Need-mul-kl
-mul-kl c = omega (arith, c .before .before .before .before .before .before .before .pre .0 (c .before .before .if1 .left))
+mul-kl c = omega (arith, c .before .before .before .before .before .before .before .before .before .before .before .pre .0 .0 (c .before .before .before .before .before .before .if1 .left))
 
 slice-write-kl : tie.Need-slice-write-kl
-slice-write-kl c = omega (arith, c .before .before .before .before .before .before .before .pre .0 (c .before .before .if1 .left))
+slice-write-kl c = omega (arith, c .before .before .before .before .before .before .before .before .before .before .before .pre .0 .0 (c .before .before .before .before .before .before .if1 .left))
 
 slice-write-km : tie.Need-slice-write-km
-slice-write-km c = omega (arith, c .before .before .before .before .before .before .before .pre .0 (c .before .before .if1 .left))
-
-add-result : tie.Need-add-result
-add-result c = omega (arith, c .before .before .before .before .before .before .before .pre .0 (c .before .before .if1 .left))
+slice-write-km c = omega (arith, c .before .before .before .before .before .before .before .before .before .before .before .pre .0 .0 (c .before .before .before .before .before .before .if1 .left))
 
 same-length : tie.Need-same-length
 same-length c = search needs
@@ -41,7 +42,22 @@ same-length-3 : tie.Need-same-length-3
 same-length-3 c = search needs
 
 returns-2 : tie.Need-returns-2
-returns-2 c = (simp (eq-eqb _ _ (c .before .before .if1 .left)), (simp (eq-eqb _ _ (c .before .before .if1 .left)), (simp (eq-eqb _ _ (c .before .before .if1 .left)), simp (eq-eqb _ _ (c .before .before .if1 .left), c .digest .ensures, c .before .string-of .ensures))))
+returns-2 c = (rows-met _ _ _ _ _ _ (c .before .before .before .before .before .before .before .if1 .left) (c .before .before .before .before .before .before .string-of .ensures) (c .before .is-met .ensures) (c .if2 .taken), (simp (eq-eqb _ _ (c .before .before .before .before .before .before .before .if1 .left)), (simp (eq-eqb _ _ (c .before .before .before .before .before .before .before .if1 .left)), simp (eq-eqb _ _ (c .before .before .before .before .before .before .before .if1 .left), c .before .before .before .before .before .digest .ensures, c .before .before .before .before .before .before .string-of .ensures))))
+
+add-result : tie.Need-add-result
+add-result c = omega (arith, c .before .before .before .before .before .before .before .before .before .before .before .before .pre .0 .0 (c .before .before .before .before .before .before .before .if1 .left))
+
+same-length-4 : tie.Need-same-length-4
+same-length-4 c = search needs
+
+same-length-5 : tie.Need-same-length-5
+same-length-5 c = search needs
+
+same-length-6 : tie.Need-same-length-6
+same-length-6 c = search needs
+
+returns-3 : tie.Need-returns-3
+returns-3 c = (rows-new _ _ _ _ _ _ (c .before .before .before .before .before .before .before .if1 .left) (c .before .before .before .before .before .before .string-of .ensures) (c .before .is-met .ensures) (c .if2 .left), (simp (eq-eqb _ _ (c .before .before .before .before .before .before .before .if1 .left)), (simp (eq-eqb _ _ (c .before .before .before .before .before .before .before .if1 .left)), simp (eq-eqb _ _ (c .before .before .before .before .before .before .before .if1 .left), c .before .before .before .before .before .digest .ensures, c .before .before .before .before .before .before .string-of .ensures))))
 
 pub put-key-spec : {M : Type 1} → statement M
 put-key-spec =
@@ -50,13 +66,18 @@ put-key-spec =
     returns
     string-of-requires
     digest-requires
+    is-met-requires
     mul-ks
     slice-write-ks
     mul-kl
     slice-write-kl
     slice-write-km
-    add-result
     same-length
     same-length-2
     same-length-3
-    returns-2)
+    returns-2
+    add-result
+    same-length-4
+    same-length-5
+    same-length-6
+    returns-3)
