@@ -9,7 +9,7 @@ use native.Mathlib.Omega.{arith}
 use lib.Dec.{leb, eqb}
 use borrow.Author.Tests.{eq-eqb, ne-eqb, eqb-true, leb-true, not-true, not-false}
 use Rattle.text.specs.Bytes.{Text}
-use Rattle.path.proofs.Pieces.{by-test}
+use Rattle.text.proofs.Picks.{by-test}
 use Rattle.book.specs.declared.Cmd.{Cmd}
 use Rattle.text.specs.Text.{someOf}
 use Rattle.book.specs.Command.{begin, key}
