@@ -11,8 +11,9 @@ use Rattle.book.specs.Record.{strings}
 use Rattle.book.specs.Index.{recordAt}
 use Rattle.tsconfig.specs.Listing.{row, rows}
 use Rattle.rows.specs.Rows.{beginAt}
-use Rattle.listing.specs.Parts.{listAt, rootsAt, urlAt, placeAt, mappingAt, flagsFrom, textsFrom, optionsPart, placesPart, mappingPart, basePart, wholePart}
-use Rattle.listing.proofs.Fields.{turn-first, turn-rest, turn-both}
+use Rattle.fields.specs.Fields.{listAt, rootsAt, urlAt, placeAt, mappingAt}
+use Rattle.listing.specs.Parts.{flagsFrom, textsFrom, optionsPart, placesPart, mappingPart, basePart, wholePart}
+use Rattle.listing.proofs.Turns.{turn-first, turn-rest, turn-both}
 
 module _ (commands : Text) (begins suppliers : List ℕ) (text : Text) (at : ℕ) (h : Room at (optionsPart commands begins suppliers text)) where
   options-all : Room at ((flagsFrom commands begins suppliers 0 11) ++ (textsFrom commands begins suppliers text 0 7))

@@ -25,7 +25,9 @@ use Rattle.tsconfig.specs.Build.{adjusted}
 use Rattle.tsconfig.specs.Listing.{row, rows, items, mapping, keyRows, decimal, ifNamed, flagRow, textRow}
 use Rattle.rows.specs.Rows.{beginAt}
 use Rattle.rows.specs.Records.{dirOf}
-use Rattle.listing.specs.Parts.{builtKey, builtPlace, builtStrings, builtRoots, builtKeys, listAt, rootsAt, urlAt, placeAt, mappingAt, flagAt, textAt, GoodAt, Lent, flagsFrom, textsFrom, optionsPart, placesPart, mappingPart, basePart, wholePart}
+use Rattle.lines.specs.Lines.{builtKey, builtPlace, builtStrings, builtKeys}
+use Rattle.fields.specs.Fields.{builtRoots, listAt, rootsAt, urlAt, placeAt, mappingAt, flagAt, textAt, GoodAt}
+use Rattle.listing.specs.Parts.{Lent, flagsFrom, textsFrom, optionsPart, placesPart, mappingPart, basePart, wholePart}
 
 -- Lines
 

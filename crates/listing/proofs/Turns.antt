@@ -1,101 +1,54 @@
--- The loops over the items of a record: what one turn writes, and what is left. Assumes nothing.
-use mathlib.Core.Path.{_≡_, sym, ap, _∙_}
-use mathlib.Core.List.{List, [], _++_, map, append-assoc}
-use Prim.Native.Nat.{ℕ, _-_, _<_, _≤_}
+-- The fields in turn: what begin_at asks, the loops over the ids, and a field with what follows it. Assumes nothing.
+use mathlib.Core.Path.{_≡_, refl}
+use mathlib.Core.List.{List, [], _++_}
+use Prim.Native.Nat.{ℕ, suc, _+_, _-_, _<_, _≤_}
 use native.Mathlib.Omega.{arith}
-use lib.ListN.{length, length-take}
-use Rattle.text.specs.Bytes.{Text, bytes}
-use Rattle.emit.specs.Emit.{Holds}
-use Rattle.book.specs.declared.Cmd.{Cmd}
-use Rattle.book.specs.Command.{key}
-use Rattle.book.specs.Rules.{textOf}
-use Rattle.book.specs.Record.{Key, is, strings, keysOf, targetsOf}
-use Rattle.book.specs.Index.{recordAt}
-use Rattle.book.specs.Sound.{All, Good}
-use Rattle.records.specs.declared.Item.{Item}
-use Rattle.records.specs.declared.Item.the-variants.{At, Missing}
-use Rattle.records.specs.Items.{itemOf, targetItem}
-use Rattle.records.proofs.Items.{readFrom, Got, got, Aimed, aimed, strings-missing, strings-got, keys-missing, keys-got, targets-missing, targets-got}
-use Rattle.values.proofs.Reading.{got-rest, got-short, aimed-rest, aimed-short}
-use Rattle.tsconfig.specs.Build.{adjusted}
-use Rattle.tsconfig.specs.Listing.{row, rows, keyRows}
-use Rattle.listing.specs.Parts.{builtKey, keyText}
+use native.Mathlib.Numerals.{add-one}
+use lib.ListN.{length, getD}
+use Rattle.text.specs.Bytes.{Text}
+use Rattle.emit.specs.Emit.{Room, Emits}
+use Rattle.emit.proofs.Emits.{emits-both, room-first, room-rest}
+use Rattle.text.specs.declared.Found.{Found}
+use Rattle.rows.specs.Rows.{beginAt}
+use Rattle.fields.specs.Fields.{flagAt, textAt, GoodAt}
+use Rattle.listing.specs.Parts.{Reaches, Lent, flagsFrom, textsFrom}
 
--- The item found is good, and so is what follows it
+-- The loops over the ids
 
-module _ (text : Text) (op : ℕ) (s : Text) (at : ℕ) (r : Item) (told : r ≡ itemOf op (readFrom s at)) {c : Cmd} {next : ℕ} (e : r ≡ At c next) where
-  item : Got s (is op) at c next
-  item = got (is op) s at c next (sym e ∙ told)
+module _ (commands : Text) (begins suppliers : List ℕ) (id : ℕ) where
+  pub flags-end : 11 ≤ id → flagsFrom commands begins suppliers id (11 - id) ≡ []
+  unfolding flagsFrom
+  flags-end h = let z : 11 - id ≡ 0 = omega (arith, h) in rw z refl
 
-  pub item-less : length s - next < length s - at
-  item-less = omega (arith, item .forth, item .within)
+  pub flags-turn : id < 11 → (f : Found) → f ≡ beginAt begins suppliers (8 + id) → flagsFrom commands begins suppliers id (11 - id) ≡ flagAt commands id f ++ flagsFrom commands begins suppliers (id + 1) (11 - (id + 1))
+  unfolding flagsFrom
+  flags-turn h f e = let z : 11 - id ≡ suc (11 - (id + 1)) = omega (arith, h) in rw (z, e, add-one) refl
 
-  module _ (h : All (Good text) (recordAt s at)) where
-    pub item-on : All (Good text) (recordAt s next)
-    item-on = got-rest text s at h c next (is op) (sym e ∙ told)
+  module _ (text : Text) where
+    pub texts-end : 7 ≤ id → textsFrom commands begins suppliers text id (7 - id) ≡ []
+    unfolding textsFrom
+    texts-end h = let z : 7 - id ≡ 0 = omega (arith, h) in rw z refl
 
-    pub item-short : (v : Text) → v ≡ textOf text c → length v ≤ 512
-    item-short v q = omega (arith, ap length q, got-short text s at h c next (is op) (sym e ∙ told))
+    pub texts-turn : id < 7 → (f : Found) → f ≡ beginAt begins suppliers (19 + id) → textsFrom commands begins suppliers text id (7 - id) ≡ textAt commands text id f ++ textsFrom commands begins suppliers text (id + 1) (7 - (id + 1))
+    unfolding textsFrom
+    texts-turn h f e = let z : 7 - id ≡ suc (7 - (id + 1)) = omega (arith, h) in rw (z, e, add-one) refl
 
-module _ (text s : Text) (at : ℕ) (r : Item) (told : r ≡ targetItem (readFrom s at)) {c : Cmd} {next : ℕ} (e : r ≡ At c next) where
-  aim : Aimed s at c next
-  aim = aimed s at c next (sym e ∙ told)
+-- what begin_at asks
+module _ (begins suppliers : List ℕ) (h : Reaches begins suppliers) (k : ℕ) (l : k < 28) where
+  pub reach : (k < length suppliers) × ((getD suppliers k 255 ≡ 255 → ⊥) → getD suppliers k 255 < length begins)
+  reach = (omega (arith, h .long, l), h .within k l)
 
-  pub target-less : length s - next < length s - at
-  target-less = omega (arith, aim .forth, aim .within)
+-- A field and what follows it, where the code has its supplier under a name
 
-  module _ (h : All (Good text) (recordAt s at)) where
-    pub target-on : All (Good text) (recordAt s next)
-    target-on = aimed-rest text s at h c next (sym e ∙ told)
+module _ (F : Found → Text) (y : Text) (g f : Found) (e : f ≡ g) (at : ℕ) where
+  pub turn-first : Room at (F g ++ y) → Room at (F f)
+  turn-first h = rw e (room-first (F g) y at h)
 
-    pub target-short : (v : Text) → v ≡ textOf text c → length v ≤ 512
-    target-short v q = omega (arith, ap length q, aimed-short text s at h c next (sym e ∙ told))
+  pub turn-rest : (o u : Text) (r : ℕ) → Room at (F g ++ y) → Emits (F f) o at u r → Room r y
+  turn-rest o u r h p = room-rest (F g) y o u at r (rw e at p) h
 
--- One turn
+  pub turn-both : (o u v : Text) (r q : ℕ) → Emits (F f) o at u r → Emits y u r v q → Emits (F g ++ y) o at v q
+  turn-both o u v r q p z = emits-both (F g) y o u v at r q (rw e at p) z
 
-module _ (name text : Text) (op : ℕ) (s : Text) (at : ℕ) (r : Item) (told : r ≡ itemOf op (readFrom s at)) where
-  pub rows-end : r ≡ Missing → rows name (strings text op (recordAt s at)) ≡ []
-  unfolding rows
-  rows-end e = ap (rows name) (strings-missing text op s at (sym e ∙ told))
-
-  pub rows-turn : (c : Cmd) (next : ℕ) → r ≡ At c next → (v : Text) → v ≡ textOf text c → rows name (strings text op (recordAt s at)) ≡ row name v ++ rows name (strings text op (recordAt s next))
-  unfolding rows
-  rows-turn c next e v q = ap (rows name) (strings-got text op s at c next (sym e ∙ told)) ∙ ap (λ (x : Text). row name x ++ rows name (strings text op (recordAt s next))) (sym q)
-
-  module _ (f : Text → Text) where
-    pub built-end : r ≡ Missing → rows name (map f (strings text op (recordAt s at))) ≡ []
-    unfolding rows
-    built-end e = ap (λ (l : List Text). rows name (map f l)) (strings-missing text op s at (sym e ∙ told))
-
-    pub built-turn : (c : Cmd) (next : ℕ) → r ≡ At c next → (v : Text) → v ≡ textOf text c → rows name (map f (strings text op (recordAt s at))) ≡ row name (f v) ++ rows name (map f (strings text op (recordAt s next)))
-    unfolding rows
-    built-turn c next e v q = ap (λ (l : List Text). rows name (map f l)) (strings-got text op s at c next (sym e ∙ told)) ∙ ap (λ (x : Text). row name (f x) ++ rows name (map f (strings text op (recordAt s next)))) (sym q)
-
-module _ (name text : Text) (f : Text → Text) (s : Text) (at : ℕ) (r : Item) (told : r ≡ targetItem (readFrom s at)) where
-  pub targets-end : r ≡ Missing → rows name (map f (targetsOf text (recordAt s at))) ≡ []
-  unfolding rows
-  targets-end e = ap (λ (l : List Text). rows name (map f l)) (targets-missing text s at (sym e ∙ told))
-
-  pub targets-turn : (c : Cmd) (next : ℕ) → r ≡ At c next → (v : Text) → v ≡ textOf text c → rows name (map f (targetsOf text (recordAt s at))) ≡ row name (f v) ++ rows name (map f (targetsOf text (recordAt s next)))
-  unfolding rows
-  targets-turn c next e v q = ap (λ (l : List Text). rows name (map f l)) (targets-got text s at c next (sym e ∙ told)) ∙ ap (λ (x : Text). row name (f x) ++ rows name (map f (targetsOf text (recordAt s next)))) (sym q)
-
-module _ (text dir base s : Text) (at : ℕ) (r : Item) (told : r ≡ itemOf key (readFrom s at)) where
-  abbrev keysAt : ℕ → Text
-  keysAt k = keyRows (map (builtKey dir base) (keysOf text (recordAt s k)))
-
-  pub keys-end : r ≡ Missing → keysAt at ≡ []
-  unfolding keyRows
-  keys-end e = ap (λ (l : List Key). keyRows (map (builtKey dir base) l)) (keys-missing text s at (sym e ∙ told))
-
-  pub keys-turn : (c : Cmd) (next : ℕ) → r ≡ At c next → keysAt at ≡ keyText s text dir base c next ++ keysAt next
-  unfolding keyRows
-  keys-turn c next e =
-      ap (λ (l : List Key). keyRows (map (builtKey dir base) l)) (keys-got text s at c next (sym e ∙ told))
-      ∙ sym (append-assoc (row (bytes "key") (textOf text c)) (rows (bytes "target") (map (adjusted dir base) (targetsOf text (recordAt s next)))) (keysAt next))
-
--- What a buffer holds
-
-module _ (n : ℕ) (out v : Text) (h : Holds n out v) where
-  pub held : n ≤ length out
-  held = omega (arith, h .size, ap length (h .bytes), length-take n out)
+pub good-of : (commands text : Text) (begins suppliers : List ℕ) → Lent commands text begins suppliers → (k : ℕ) → k < 28 → (f : Found) → f ≡ beginAt begins suppliers k → GoodAt commands text f
+good-of commands text begins suppliers h k l f e = rw e (h .good k l)

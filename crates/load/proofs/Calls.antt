@@ -17,14 +17,15 @@ use Rattle.rows.specs.Merge.{mergedRow}
 use Rattle.rows.proofs.Lists.{getD-any}
 use Rattle.rows.proofs.Configs.{merge-number, merge-config, merge-is-row}
 use Rattle.rows.proofs.Tables.{stored-same, stored-same-at, stored-other, stored-other-at}
-use Rattle.load.specs.Loads.{onOf, holder, stateOf, pending, Gives, Went, Tells, walks, Ready, Opens, OpenPre, LoadPre, WalkPre, BringPre}
+use Rattle.entries.specs.Opens.{Ready, Opens, OpenPre}
+use Rattle.load.specs.Loads.{onOf, holder, stateOf, pending, Gives, Went, Tells, walks, LoadPre, WalkPre, BringPre}
 use Rattle.load.specs.declared.Told.{Told}
 use Rattle.load.specs.declared.Told.the-variants.{Done}
-use Rattle.load.specs.declared.Opening.{Opening}
-use Rattle.load.specs.declared.Opening.the-variants as opening
+use Rattle.entries.specs.declared.Opening.{Opening}
+use Rattle.entries.specs.declared.Opening.the-variants as opening
 use Rattle.tsconfig_resolver.specs.Load.{load}
 use Rattle.tsconfig_resolver.specs.Find.{seen}
-use Rattle.load.proofs.Dirs.{few-records}
+use Rattle.entries.proofs.Dirs.{few-records}
 use Rattle.load.proofs.Walks.{pending-falls, load-went, load-done}
 
 -- a row merged with another

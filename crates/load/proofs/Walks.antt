@@ -22,13 +22,14 @@ use Rattle.tsconfig_resolver.proofs.Tally.{tally-ext, tally-add}
 use Rattle.tsconfig_resolver.proofs.Fuel.{load-law, free-cons}
 use Rattle.rows.specs.Rows.{absent, numberOf, configOf, Row, rowAt}
 use Rattle.rows.proofs.Tables.{row-place}
-use Rattle.load.specs.Codes.{entryOf}
-use Rattle.load.specs.Loads.{onOf, holder, unloaded, stateOf, pending, Table, Gives, Went, ToldAs, Tells, walks, Ready, OpenedAs, Opens}
+use Rattle.entries.specs.Codes.{entryOf}
+use Rattle.entries.specs.Opens.{Ready, OpenedAs, Opens}
+use Rattle.load.specs.Loads.{onOf, holder, unloaded, stateOf, pending, Table, Gives, Went, ToldAs, Tells, walks}
 use Rattle.load.specs.declared.Told.{Told}
 use Rattle.load.specs.declared.Told.the-variants.{Refused, Done}
-use Rattle.load.specs.declared.Opening.{Opening}
-use Rattle.load.specs.declared.Opening.the-variants as opening
-use Rattle.load.proofs.Entries.{coded}
+use Rattle.entries.specs.declared.Opening.{Opening}
+use Rattle.entries.specs.declared.Opening.the-variants as opening
+use Rattle.entries.proofs.Entries.{coded}
 
 -- The chain
 

@@ -31,9 +31,9 @@ use Rattle.owner.specs.declared.Owned.{Owned}
 use Rattle.owner.specs.declared.Owned.the-variants.{Refused, Nobody, By}
 use Rattle.owner.specs.Owned.{claimer, answered, Held, OwnedAs, FolderAs}
 use Rattle.rows.specs.Rows.{Row, rowAt, siteOf, numberOf}
-use Rattle.load.specs.Loads.{sitesOf, Opened, WholeAs}
-use Rattle.load.specs.declared.Whole.{Whole}
-use Rattle.load.specs.declared.Whole.the-variants as whole
+use Rattle.references.specs.References.{sitesOf, Opened, WholeAs}
+use Rattle.references.specs.declared.Whole.{Whole}
+use Rattle.references.specs.declared.Whole.the-variants as whole
 use Rattle.text.specs.declared.Found.{Found}
 use Rattle.text.specs.declared.Found.the-variants.{At, Nothing}
 use Rattle.records.specs.Items.{pathTable, foundNumber}

@@ -3,9 +3,9 @@ use claims::is_claimed;
 use components::count_components;
 use components::inside_node_modules;
 use ends::parent_len;
-use load::Whole;
-use load::load_record;
 use records::config_in;
+use references::Whole;
+use references::load_record;
 use sites::site_number;
 use text::Found;
 use text::between;
@@ -23,7 +23,7 @@ ghost use Rattle.tsconfig_resolver.specs.Find.{pathsOf};
 ghost use Rattle.tsconfig_resolver.specs.Project.{Project, ownerOf};
 ghost use Rattle.rows.specs.Rows.{Row, siteOf, rowAt};
 ghost use Rattle.rows.specs.Records.{Records, Paths, recordsOf};
-ghost use Rattle.load.specs.Loads.{sitesOf};
+ghost use Rattle.references.specs.References.{sitesOf};
 ghost use Rattle.owner.specs.Owned.{claimer, answered, Held, OwnedAs, FolderAs};
 
 pub enum Owned {

@@ -36,9 +36,9 @@ use Rattle.mapping.specs.Targets.{Lists}
 use Rattle.tsconfig.specs.Laid.{laid}
 use Rattle.tsconfig_resolver.specs.Find.{recordAt}
 use Rattle.rows.specs.Rows.{numberOf, siteOf, Row}
-use Rattle.load.specs.Loads.{sitesOf, Opened, WholeAs}
-use Rattle.load.specs.declared.Whole.{Whole}
-use Rattle.load.specs.declared.Whole.the-variants as whole
+use Rattle.references.specs.References.{sitesOf, Opened, WholeAs}
+use Rattle.references.specs.declared.Whole.{Whole}
+use Rattle.references.specs.declared.Whole.the-variants as whole
 use Rattle.owner.specs.Owned.{answered}
 use Rattle.owner.specs.declared.Owned.{Owned}
 use Rattle.owner.specs.declared.Owned.the-variants as owned

@@ -2,13 +2,13 @@
 use book::Judged;
 use book::check_tables;
 use listing::put_listing;
-use load::Whole;
-use load::load_record;
 use mapping::Listed;
 use mapping::put_candidates;
 use owner::Owned;
 use owner::find_owner;
 use records::locate;
+use references::Whole;
+use references::load_record;
 use sites::site_base;
 use sites::site_number;
 use strings::is_asked_path;

@@ -4,7 +4,7 @@ use lib.ListN.{length}
 use native.Mathlib.Omega.{arith}
 use Rattle.emit.proofs.Emits.{Owes, owes-all, owes-step, owes-room, owes-end}
 use Rattle.listing.specs.Parts.{flagsFrom}
-use Rattle.listing.proofs.Fields.{flags-end, flags-turn, reach}
+use Rattle.listing.proofs.Turns.{flags-end, flags-turn, reach}
 use borrow.Author.Needs.{needs}
 use Rattle.listing.proofs.put_flags.Statement.{statement}
 use Rattle.listing.proofs.put_flags.Tie as tie

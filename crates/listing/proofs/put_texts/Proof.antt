@@ -4,7 +4,7 @@ use lib.ListN.{length}
 use native.Mathlib.Omega.{arith}
 use Rattle.emit.proofs.Emits.{Owes, owes-all, owes-step, owes-room, owes-end}
 use Rattle.listing.specs.Parts.{textsFrom}
-use Rattle.listing.proofs.Fields.{texts-end, texts-turn, reach}
+use Rattle.listing.proofs.Turns.{texts-end, texts-turn, reach}
 use borrow.Author.Needs.{needs}
 use Rattle.listing.proofs.put_texts.Statement.{statement}
 use Rattle.listing.proofs.put_texts.Tie as tie

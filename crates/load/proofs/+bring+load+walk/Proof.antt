@@ -1,6 +1,6 @@
 use mathlib.Core.Path.{refl}
 use Rattle.rows.specs.Records.{recordsOf}
-use Rattle.load.proofs.Dirs.{few-records, inside-records}
+use Rattle.entries.proofs.Dirs.{few-records, inside-records}
 use Rattle.load.proofs.Walks.{spare, spare-set, bring-missing, bring-bare, bring-empty, bring-held, bring-loaded, bring-byte, walk-none, walk-refused, walk-went, walk-on, load-on, load-unread, load-ready, load-refused}
 use Rattle.load.proofs.Calls.{merges, row-inside, read-held, read-free, open-next, walk-start, load-next, bring-next, walk-next, walked, load-stored}
 use native.Mathlib.Omega.{arith}
@@ -17,7 +17,7 @@ use Rattle.load.proofs.+bring+load+walk.Lts-load as load-lts
 use Rattle.load.proofs.walk.Reads as walk
 use Rattle.load.proofs.walk.Kinds as walk-kinds
 use Rattle.load.proofs.+bring+load+walk.Lts-walk as walk-lts
-use Rattle.load.proofs.open_record.Reads as open-record-reads
+use Rattle.entries.proofs.open_record.Reads as open-record-reads
 use Rattle.load.proofs.wide.Reads as wide-reads
 use Rattle.rows.proofs.merge_row.Reads as merge-row-reads
 use Rattle.rows.proofs.store_row.Reads as store-row-reads

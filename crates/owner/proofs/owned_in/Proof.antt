@@ -6,7 +6,7 @@ use Rattle.text.specs.declared.Found.the-variants.{At, Nothing}
 use Rattle.records.specs.Items.{pathTable, foundNumber}
 use Rattle.rows.specs.Records.{recordsOf}
 use Rattle.rows.specs.Rows.{siteOf}
-use Rattle.load.specs.Loads.{sitesOf}
+use Rattle.references.specs.References.{sitesOf}
 use Rattle.owner.specs.Owned.{OwnedAs}
 use Rattle.owner.specs.declared.Owned.the-variants.{Refused, Nobody, By}
 use native.Mathlib.Omega.{arith}
@@ -17,7 +17,7 @@ use Rattle.owner.proofs.owned_in.Statement.{statement}
 use Rattle.owner.proofs.owned_in.Tie as tie
 use Rattle.owner.proofs.owned_in.Reads as reads
 use Rattle.owner.proofs.owned_in.Lts as lts
-use Rattle.load.proofs.load_record.Reads as load-record-reads
+use Rattle.references.proofs.load_record.Reads as load-record-reads
 use Rattle.owner.proofs.owned_by.Reads as owned-by-reads
 use Rattle.records.proofs.config_in.Reads as config-in-reads
 

@@ -19,7 +19,7 @@ use Rattle.questions.proofs.open_site.Statement.{statement}
 use Rattle.questions.proofs.open_site.Tie as tie
 use Rattle.questions.proofs.open_site.Reads as reads
 use Rattle.questions.proofs.open_site.Lts as lts
-use Rattle.load.proofs.load_record.Reads as load-record-reads
+use Rattle.references.proofs.load_record.Reads as load-record-reads
 use Rattle.sites.proofs.site_base.Reads as site-base-reads
 
 slice-aggregate-load-record : tie.Need-slice-aggregate-load-record

@@ -1,0 +1,3 @@
+-- Laws of the definitions of specs/.
+pub mod Entries
+pub mod Dirs
