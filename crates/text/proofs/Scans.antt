@@ -1,8 +1,8 @@
 -- Laws of the tests and searches: what one step of a scan does to them. Assumes nothing.
-use mathlib.Core.Path.{_≡_, refl, ap, sym, _∙_}
+use mathlib.Core.Path.{_≡_, refl, ap, sym, subst, _∙_}
 use mathlib.Core.List.{[], _∷_, _++_}
 use mathlib.Core.Bool.{Bool, true, false, and-false, cond}
-use Prim.Native.Nat.{ℕ, suc, _+_, _-_, _≤_, _<_}
+use Prim.Native.Nat.{ℕ, zero, suc, _+_, _-_, _≤_, _<_}
 use native.Mathlib.Numerals.{add-one}
 use native.Mathlib.Nat.{add-zero, add-suc, suc-add}
 use native.Mathlib.Omega.{arith}
@@ -21,13 +21,23 @@ pub prefix-same : (p s : Text) (i : ℕ) → i < length p → i < length s → g
 unfolding prefixOf
 prefix-same p s i hp hs e = rw (add-one, drop-cons p i 0, drop-cons s i 0, eq-eqb _ _ e)
 
-pub prefix-other : (p s : Text) (i : ℕ) → i < length p → i < length s → (getD s i 0 ≡ getD p i 0 → ⊥) → prefixOf (drop i p) (drop i s) ≡ false
-unfolding prefixOf
-prefix-other p s i hp hs e = rw (drop-cons p i 0, drop-cons s i 0, ne-eqb _ _ e)
-
 pub prefix-end : (p s : Text) (i : ℕ) → length p ≤ i → prefixOf (drop i p) (drop i s) ≡ true
 unfolding prefixOf
 prefix-end p s i hp = rw (drop-of-length-le p hp)
+
+pub prefix-differs : (p s : Text) (i : ℕ) → i < length p → (getD s i 0 ≡ getD p i 0 → ⊥) → prefixOf p s ≡ false
+unfolding prefixOf
+prefix-differs [] s i h e = let z : ⊥ = omega (arith, h) in absurd z
+prefix-differs (x ∷ p) [] i h e = refl
+prefix-differs (x ∷ p) (y ∷ s) zero h e = rw (ne-eqb y x e) refl
+prefix-differs (x ∷ p) (y ∷ s) (suc i) h e = rw (prefix-differs p s i (omega (arith, h)) e) (and-false (eqb y x))
+
+-- one byte more, from the end on
+pub prefix-back : (p s : Text) (k i : ℕ) → i + 1 ≡ k → k ≤ length p → length p ≤ length s → getD s i 0 ≡ getD p i 0 → prefixOf (drop k p) (drop k s) ≡ true → prefixOf (drop i p) (drop i s) ≡ true
+prefix-back p s k i e hp hs b h = prefix-same p s i (omega (arith, e, hp)) (omega (arith, e, hp, hs)) b ∙ subst (λ (j : ℕ). prefixOf (drop j p) (drop j s) ≡ true) (sym e) h
+
+pub prefix-whole : (p s : Text) (i : ℕ) → i ≤ 0 → prefixOf (drop i p) (drop i s) ≡ true → true ≡ prefixOf p s
+prefix-whole p s i z h = let e : i ≡ 0 = omega (arith, z) in sym (subst (λ (j : ℕ). prefixOf (drop j p) (drop j s) ≡ true) e h)
 
 pub prefix-short : (p s : Text) → length s < length p → false ≡ prefixOf p s
 unfolding prefixOf

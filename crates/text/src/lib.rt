@@ -23,19 +23,19 @@ pub enum Part {
     Missing,
 }
 
-// Whether p is a prefix of s.
+// Whether p is a prefix of s. The last byte is looked at first: paths mostly begin alike.
 pub fn starts_with(s: &[u8], p: &[u8]) -> bool
     ensures { λ r. ⌜ r ≡ prefixOf (now (p .entry)) (now (s .entry)) ⌝ }
 {
     if s.len() < p.len() {
         return false;
     }
-    let mut i = 0;
-    while i < p.len() {
+    let mut i = p.len();
+    while 0 < i {
+        i -= 1;
         if s[i] != p[i] {
             return false;
         }
-        i += 1;
     }
     true
 }
