@@ -12,7 +12,7 @@ use Rattle.book.specs.Index.{recordAt}
 use Rattle.tsconfig.specs.Listing.{row, rows}
 use Rattle.rows.specs.Rows.{beginAt}
 use Rattle.fields.specs.Fields.{listAt, rootsAt, urlAt, placeAt, mappingAt}
-use Rattle.options.specs.Options.{flagsFrom, textsFrom, optionsPart}
+use Rattle.options.specs.Options.{optionsPart}
 use Rattle.listing.specs.Parts.{placesPart, mappingPart, basePart, wholePart}
 use Rattle.listing.proofs.Turns.{turn-first, turn-rest, turn-both}
 
