@@ -1,10 +1,9 @@
 -- The ways out of the functions that write one field. Assumes nothing.
 use mathlib.Core.Path.{_≡_, refl, sym, ap, subst, _∙_}
-use mathlib.Core.List.{List, [], _++_, map}
+use mathlib.Core.List.{List, [], map}
 use Prim.Native.Nat.{ℕ, _≤_}
 use native.Mathlib.Omega.{arith}
 use lib.ListN.{length}
-use lib.Dec.{eqb}
 use Rattle.text.specs.Bytes.{Text, bytes}
 use Rattle.text.specs.declared.Found.{Found}
 use Rattle.text.specs.declared.Found.the-variants as found
@@ -16,14 +15,14 @@ use Rattle.book.specs.Index.{recordAt}
 use Rattle.book.specs.Sound.{All, Good}
 use Rattle.records.specs.declared.Item.{Item}
 use Rattle.records.specs.declared.Item.the-variants.{At, Missing}
-use Rattle.records.specs.Items.{itemOf, optionItem}
-use Rattle.records.proofs.Items.{readFrom, strings-missing, strings-got, single-missing, single-got, keys-missing, keys-got, flag-missing, flag-got, option-missing, option-got}
+use Rattle.records.specs.Items.{itemOf}
+use Rattle.records.proofs.Items.{readFrom, strings-missing, strings-got, single-missing, single-got, keys-missing, keys-got}
 use Rattle.values.proofs.Reading.{dir-short}
 use Rattle.tsconfig.specs.Build.{adjusted}
-use Rattle.tsconfig.specs.Listing.{row, rows, items, mapping, keyRows, decimal, ifNamed, flagRow, textRow}
+use Rattle.tsconfig.specs.Listing.{row, rows, items, mapping, keyRows, ifNamed}
 use Rattle.rows.specs.Records.{dirOf}
 use Rattle.lines.specs.Lines.{ended, builtKey, builtPlace, builtStrings, builtKeys}
-use Rattle.fields.specs.Fields.{builtRoots, listAt, rootsAt, urlAt, placeAt, mappingAt, flagAt, textAt, GoodAt}
+use Rattle.fields.specs.Fields.{builtRoots, listAt, rootsAt, urlAt, placeAt, mappingAt, GoodAt}
 
 -- Lists
 
@@ -69,14 +68,6 @@ module _ (commands text : Text) (f : Found) where
     unfolding mappingAt
     paths-none dir base = rw e refl
 
-    pub flag-none : (id : ℕ) → flagAt commands id f ≡ []
-    unfolding flagAt
-    flag-none id = rw e refl
-
-    pub text-none : (id : ℕ) → textAt commands text id f ≡ []
-    unfolding textAt
-    text-none id = rw e refl
-
   module _ (rec : ℕ) (e : f ≡ found.At rec) where
     pub good-at : GoodAt commands text f → All (Good text) (recordAt commands rec)
     good-at h = subst (GoodAt commands text) e h
@@ -110,24 +101,6 @@ module _ (commands text : Text) (f : Found) where
       pub place-got : {c : Cmd} {next : ℕ} → r ≡ At c next → (v : Text) → v ≡ textOf text c → (own : Text) → own ≡ dirOf text (recordAt commands rec) → placeAt commands text name dir op f ≡ row name (builtPlace dir own v)
       unfolding placeAt ifNamed
       place-got {c} {next} g v q own w = rw (e, single-got text op commands rec c next (sym g ∙ told), q, w) refl
-
-    module _ (id : ℕ) (r : Item) (told : r ≡ optionItem command.flag id (readFrom commands rec)) where
-      pub flag-unset : r ≡ Missing → flagAt commands id f ≡ []
-      unfolding flagAt ifNamed
-      flag-unset m = rw (e, flag-missing id commands rec (sym m ∙ told)) refl
-
-      pub flag-set : {c : Cmd} {next : ℕ} → r ≡ At c next → flagAt commands id f ≡ flagRow id (eqb (c .value) 1)
-      unfolding flagAt ifNamed
-      flag-set {c} {next} g = rw (e, flag-got id commands rec c next (sym g ∙ told)) refl
-
-    module _ (id : ℕ) (r : Item) (told : r ≡ optionItem command.textOption id (readFrom commands rec)) where
-      pub text-unset : r ≡ Missing → textAt commands text id f ≡ []
-      unfolding textAt ifNamed
-      text-unset m = rw (e, option-missing id commands rec text (sym m ∙ told)) refl
-
-      pub text-set : {c : Cmd} {next : ℕ} → r ≡ At c next → (v : Text) → v ≡ textOf text c → textAt commands text id f ≡ row (bytes "text " ++ decimal id) v
-      unfolding textAt ifNamed textRow
-      text-set {c} {next} g v q = rw (e, option-got id commands rec text c next (sym g ∙ told), q) refl
 
 -- the directory of a good record
 pub own-short : (commands text : Text) (rec : ℕ) (own : Text) → own ≡ dirOf text (recordAt commands rec) → All (Good text) (recordAt commands rec) → length own ≤ 512

@@ -6,18 +6,13 @@ use Rattle.text.specs.Bytes.{Text, bytes}
 use Rattle.text.specs.declared.Found.{Found}
 use Rattle.text.specs.declared.Found.the-variants.{At, Nothing}
 use Rattle.book.specs.Command as command
-use Rattle.book.specs.Record.{strings, single, optionOf, flagOf}
+use Rattle.book.specs.Record.{strings, single}
 use Rattle.book.specs.Index.{recordAt}
 use Rattle.book.specs.Sound.{All, Good}
 use Rattle.tsconfig.specs.Build.{adjusted}
-use Rattle.tsconfig.specs.Listing.{row, items, mapping, ifNamed, flagRow, textRow}
+use Rattle.tsconfig.specs.Listing.{row, items, mapping, ifNamed}
 use Rattle.rows.specs.Records.{dirOf}
 use Rattle.lines.specs.Lines.{builtPlace, builtStrings, builtKeys}
-
--- the line of a flag
-unfoldable pub flagAt : Text → ℕ → Found → Text
-flagAt commands id Nothing = []
-flagAt commands id (At rec) = ifNamed (flagRow id) (flagOf id (recordAt commands rec))
 
 module _ (commands text : Text) where
   -- the root dirs of the record that begins at the offset, as built
@@ -49,11 +44,6 @@ module _ (commands text : Text) where
   unfoldable pub mappingAt : Text → Text → Found → Text
   mappingAt dir base Nothing = []
   mappingAt dir base (At rec) = mapping (builtKeys commands text dir base rec)
-
-  -- the line of a text option
-  unfoldable pub textAt : ℕ → Found → Text
-  textAt id Nothing = []
-  textAt id (At rec) = ifNamed (textRow id) (optionOf text id (recordAt commands rec))
 
   -- the commands of the record that begins there are good, if there is one
   abbrev pub GoodAt : Found → Type 0

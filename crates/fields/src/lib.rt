@@ -1,24 +1,19 @@
 // The lines of one field, written to lent output: what its supplier says, as built, or nothing where it has none.
 use book::BASE_URL;
-use book::FLAG;
 use book::KEY;
 use book::ROOT_DIR;
-use book::TEXT_OPTION;
 use book::string_of;
 use lines::put_built;
-use lines::put_flag_row;
 use lines::put_keys;
 use lines::put_line;
-use lines::put_option;
 use lines::put_placed;
 use lines::put_root_rows;
 use lines::put_strings;
 use records::Item;
 use records::next_item;
-use records::next_option;
 use text::Found;
 use values::dir_at;
-ghost use Prim.Native.Nat.{_<_, _≤_};
+ghost use Prim.Native.Nat.{_≤_};
 ghost use lib.ListN.{length};
 ghost use Rattle.text.specs.Bytes.{bytes};
 ghost use Rattle.emit.specs.Emit.{Room, Emits};
@@ -26,7 +21,7 @@ ghost use Rattle.book.specs.Index.{recordAt};
 ghost use Rattle.book.specs.Sound.{All, Good};
 ghost use Rattle.tsconfig.specs.Listing.{items, mapping};
 ghost use Rattle.lines.specs.Lines.{builtStrings, builtKeys};
-ghost use Rattle.fields.specs.Fields.{builtRoots, listAt, rootsAt, urlAt, placeAt, mappingAt, flagAt, textAt, GoodAt};
+ghost use Rattle.fields.specs.Fields.{builtRoots, listAt, rootsAt, urlAt, placeAt, mappingAt, GoodAt};
 
 // Writes a list: its items, or its name alone where there are none.
 fn put_items(
@@ -192,47 +187,6 @@ pub fn put_place(
             let s = string_of(text, c);
             let own = dir_at(commands, text, rec);
             return put_placed(out, at, name, dir, own, s);
-        }
-    }
-}
-
-// Writes a flag, if it has a supplier.
-pub fn put_flag(out: &mut [u8], at: usize, commands: &[u8], found: Found, id: u8) -> usize
-    requires { ⌜ (id < 20) × Room at (flagAt (now commands) id found) ⌝ }
-    ensures { λ r. ⌜ Emits (flagAt (now (commands .entry)) id found) (now (out .entry)) at (now (out .exit)) r ⌝ }
-{
-    let Found::At(rec) = found else {
-        return at;
-    };
-    match next_option(commands, rec, FLAG, id) {
-        Item::Missing => return at,
-        Item::At(c, _) => {
-            let value = c.value;
-            return put_flag_row(out, at, id, value);
-        }
-    }
-}
-
-// Writes a text option, if it has a supplier.
-pub fn put_text_option(
-    out: &mut [u8],
-    at: usize,
-    commands: &[u8],
-    text: &[u8],
-    found: Found,
-    id: u8,
-) -> usize
-    requires { ⌜ (id < 20) × Room at (textAt (now commands) (now text) id found) ⌝ }
-    ensures { λ r. ⌜ Emits (textAt (now (commands .entry)) (now (text .entry)) id found) (now (out .entry)) at (now (out .exit)) r ⌝ }
-{
-    let Found::At(rec) = found else {
-        return at;
-    };
-    match next_option(commands, rec, TEXT_OPTION, id) {
-        Item::Missing => return at,
-        Item::At(c, _) => {
-            let s = string_of(text, c);
-            return put_option(out, at, b"text ", id, s);
         }
     }
 }

@@ -3,14 +3,12 @@ use mathlib.Core.Path.{_≡_, refl, sym, ap, subst, _∙_}
 use mathlib.Core.List.{[], _++_}
 use Prim.Native.Nat.{ℕ}
 use lib.ListN.{take}
-use lib.Dec.{eqb}
-use borrow.Author.Tests.{eq-eqb, ne-eqb}
 use Rattle.text.specs.Bytes.{Text, bytes}
 use Rattle.emit.specs.Emit.{Room, Emits, Holds}
 use Rattle.emit.proofs.Emits.{emits-none}
 use Rattle.book.specs.declared.Cmd.{Cmd}
 use Rattle.book.specs.Rules.{textOf}
-use Rattle.tsconfig.specs.Listing.{row, rows, decimal, flagRow}
+use Rattle.tsconfig.specs.Listing.{row, rows}
 use Rattle.lines.specs.Lines.{keyText, builtTargets}
 
 -- The same text otherwise said
@@ -29,16 +27,6 @@ emits-nothing x o at e = rw e (emits-none o at)
 module _ (name x v o : Text) (n : ℕ) (h : Holds n o x) (e : v ≡ take n o) where
   pub row-held : row name x ≡ row name v
   row-held = ap (row name) (sym (e ∙ h .bytes))
-
--- a flag's value
-module _ (id value : ℕ) where
-  pub flag-on : value ≡ 1 → flagRow id (eqb value 1) ≡ row (bytes "flag " ++ decimal id) (bytes "1")
-  unfolding flagRow
-  flag-on e = rw (eq-eqb value 1 e) refl
-
-  pub flag-off : (value ≡ 1 → ⊥) → flagRow id (eqb value 1) ≡ row (bytes "flag " ++ decimal id) (bytes "0")
-  unfolding flagRow
-  flag-off n = rw (ne-eqb value 1 n) refl
 
 -- a key and its targets
 pub key-as : (commands text dir base : Text) (c : Cmd) (next : ℕ) (v : Text) → v ≡ textOf text c → keyText commands text dir base c next ≡ row (bytes "key") v ++ rows (bytes "target") (builtTargets commands text dir base next)

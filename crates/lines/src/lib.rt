@@ -12,9 +12,8 @@ use records::next_target;
 use text::upto;
 use values::adjust;
 use values::build_place;
-ghost use mathlib.Core.List.{_++_, map};
-ghost use Prim.Native.Nat.{_<_, _≤_};
-ghost use lib.Dec.{eqb};
+ghost use mathlib.Core.List.{map};
+ghost use Prim.Native.Nat.{_≤_};
 ghost use lib.ListN.{length};
 ghost use Rattle.text.specs.Bytes.{bytes};
 ghost use Rattle.emit.specs.Emit.{Room, Emits};
@@ -23,7 +22,7 @@ ghost use Rattle.book.specs.Record.{strings};
 ghost use Rattle.book.specs.Index.{recordAt};
 ghost use Rattle.book.specs.Sound.{All, Good};
 ghost use Rattle.tsconfig.specs.Build.{adjusted};
-ghost use Rattle.tsconfig.specs.Listing.{row, rows, keyRows, decimal, flagRow};
+ghost use Rattle.tsconfig.specs.Listing.{row, rows, keyRows};
 ghost use Rattle.lines.specs.Lines.{ended, valued, builtPlace, builtStrings, builtTargets, builtKeys, keyText};
 
 const NEWLINE: u8 = b'\n';
@@ -40,7 +39,7 @@ pub fn put_line(out: &mut [u8], at: usize, s: &[u8]) -> usize
 }
 
 // Writes what follows a name in its line.
-fn put_value(out: &mut [u8], at: usize, v: &[u8]) -> usize
+pub fn put_value(out: &mut [u8], at: usize, v: &[u8]) -> usize
     requires { ⌜ Room at (valued (now v)) ⌝ }
     ensures { λ r. ⌜ Emits (valued (now (v .entry))) (now (out .entry)) at (now (out .exit)) r ⌝ }
 {
@@ -55,28 +54,6 @@ pub fn put_row(out: &mut [u8], at: usize, name: &[u8], v: &[u8]) -> usize
 {
     let k = put_text(out, at, name);
     put_value(out, k, v)
-}
-
-// Writes an id in decimal.
-fn put_decimal(out: &mut [u8], at: usize, id: u8) -> usize
-    requires { ⌜ (id < 20) × Room at (decimal id) ⌝ }
-    ensures { λ r. ⌜ Emits (decimal id) (now (out .entry)) at (now (out .exit)) r ⌝ }
-{
-    if id < 10 {
-        return put(out, at, 48 + id);
-    }
-    let k = put(out, at, 49);
-    put(out, k, 38 + id)
-}
-
-// Writes a name with an id, `=` and a value as a line.
-pub fn put_option(out: &mut [u8], at: usize, name: &[u8], id: u8, v: &[u8]) -> usize
-    requires { ⌜ (id < 20) × Room at (row (now name ++ decimal id) (now v)) ⌝ }
-    ensures { λ r. ⌜ Emits (row (now (name .entry) ++ decimal id) (now (v .entry))) (now (out .entry)) at (now (out .exit)) r ⌝ }
-{
-    let k = put_text(out, at, name);
-    let j = put_decimal(out, k, id);
-    put_value(out, j, v)
 }
 
 // Writes a string, as built from the directory or from the base, as a line with the name.
@@ -99,17 +76,6 @@ pub fn put_placed(out: &mut [u8], at: usize, name: &[u8], dir: &[u8], own: &[u8]
     let n = build_place(dir, own, s, &mut buffer);
     let v = upto(&buffer, n);
     put_row(out, at, name, v)
-}
-
-// Writes a flag.
-pub fn put_flag_row(out: &mut [u8], at: usize, id: u8, value: u8) -> usize
-    requires { ⌜ (id < 20) × Room at (flagRow id (eqb value 1)) ⌝ }
-    ensures { λ r. ⌜ Emits (flagRow id (eqb value 1)) (now (out .entry)) at (now (out .exit)) r ⌝ }
-{
-    if value == 1 {
-        return put_option(out, at, b"flag ", id, b"1");
-    }
-    put_option(out, at, b"flag ", id, b"0")
 }
 
 // Writes the record's items with the byte, a line each.

@@ -12,24 +12,9 @@ use Rattle.book.specs.Index.{recordAt}
 use Rattle.tsconfig.specs.Listing.{row, rows}
 use Rattle.rows.specs.Rows.{beginAt}
 use Rattle.fields.specs.Fields.{listAt, rootsAt, urlAt, placeAt, mappingAt}
-use Rattle.listing.specs.Parts.{flagsFrom, textsFrom, optionsPart, placesPart, mappingPart, basePart, wholePart}
+use Rattle.options.specs.Options.{optionsPart}
+use Rattle.listing.specs.Parts.{placesPart, mappingPart, basePart, wholePart}
 use Rattle.listing.proofs.Turns.{turn-first, turn-rest, turn-both}
-
-module _ (commands : Text) (begins suppliers : List ℕ) (text : Text) (at : ℕ) (h : Room at (optionsPart commands begins suppliers text)) where
-  options-all : Room at ((flagsFrom commands begins suppliers 0 11) ++ (textsFrom commands begins suppliers text 0 7))
-  unfolding optionsPart
-  options-all = h
-
-  pub options-1 : Room at (flagsFrom commands begins suppliers 0 11)
-  options-1 = room-first (flagsFrom commands begins suppliers 0 11) (textsFrom commands begins suppliers text 0 7) at options-all
-
-  module _ (o0 : Text) (o1 : Text) (a1 : ℕ) (p1 : Emits (flagsFrom commands begins suppliers 0 11) o0 at o1 a1) where
-    pub options-2 : Room a1 (textsFrom commands begins suppliers text 0 7)
-    options-2 = room-rest (flagsFrom commands begins suppliers 0 11) (textsFrom commands begins suppliers text 0 7) o0 o1 at a1 p1 options-all
-
-    pub options-end : (v : Text) (q : ℕ) → Emits (textsFrom commands begins suppliers text 0 7) o1 a1 v q → Emits (optionsPart commands begins suppliers text) o0 at v q
-    unfolding optionsPart
-    options-end v q z = emits-both (flagsFrom commands begins suppliers 0 11) (textsFrom commands begins suppliers text 0 7) o0 o1 v at a1 q p1 z
 
 module _ (commands : Text) (begins suppliers : List ℕ) (text : Text) (dir : Text) (at : ℕ) (h : Room at (placesPart commands begins suppliers text dir)) where
   places-all : Room at ((rootsAt commands text dir (beginAt begins suppliers 5)) ++ ((placeAt commands text (bytes "outDir") dir command.outDir (beginAt begins suppliers 6)) ++ ((placeAt commands text (bytes "declarationDir") dir command.declarationDir (beginAt begins suppliers 7)) ++ (optionsPart commands begins suppliers text))))

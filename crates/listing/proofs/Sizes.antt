@@ -26,8 +26,9 @@ use Rattle.tsconfig.specs.Listing.{row, rows, items, mapping, keyRows, decimal,
 use Rattle.rows.specs.Rows.{beginAt}
 use Rattle.rows.specs.Records.{dirOf}
 use Rattle.lines.specs.Lines.{builtKey, builtPlace, builtStrings, builtKeys}
-use Rattle.fields.specs.Fields.{builtRoots, listAt, rootsAt, urlAt, placeAt, mappingAt, flagAt, textAt, GoodAt}
-use Rattle.listing.specs.Parts.{Lent, flagsFrom, textsFrom, optionsPart, placesPart, mappingPart, basePart, wholePart}
+use Rattle.fields.specs.Fields.{builtRoots, listAt, rootsAt, urlAt, placeAt, mappingAt, GoodAt}
+use Rattle.options.specs.Options.{flagAt, textAt, flagsFrom, textsFrom, optionsPart}
+use Rattle.listing.specs.Parts.{Lent, placesPart, mappingPart, basePart, wholePart}
 
 -- Lines
 

@@ -1,42 +1,14 @@
--- The fields in turn: what begin_at asks, the loops over the ids, and a field with what follows it. Assumes nothing.
-use mathlib.Core.Path.{_≡_, refl}
-use mathlib.Core.List.{List, [], _++_}
-use Prim.Native.Nat.{ℕ, suc, _+_, _-_, _<_, _≤_}
-use native.Mathlib.Omega.{arith}
-use native.Mathlib.Numerals.{add-one}
-use lib.ListN.{length, getD}
+-- A field and what follows it, and what its supplier is. Assumes nothing.
+use mathlib.Core.Path.{_≡_}
+use mathlib.Core.List.{List, _++_}
+use Prim.Native.Nat.{ℕ, _<_}
 use Rattle.text.specs.Bytes.{Text}
 use Rattle.emit.specs.Emit.{Room, Emits}
 use Rattle.emit.proofs.Emits.{emits-both, room-first, room-rest}
 use Rattle.text.specs.declared.Found.{Found}
 use Rattle.rows.specs.Rows.{beginAt}
-use Rattle.fields.specs.Fields.{flagAt, textAt, GoodAt}
-use Rattle.listing.specs.Parts.{Reaches, Lent, flagsFrom, textsFrom}
-
--- The loops over the ids
-
-module _ (commands : Text) (begins suppliers : List ℕ) (id : ℕ) where
-  pub flags-end : 11 ≤ id → flagsFrom commands begins suppliers id (11 - id) ≡ []
-  unfolding flagsFrom
-  flags-end h = let z : 11 - id ≡ 0 = omega (arith, h) in rw z refl
-
-  pub flags-turn : id < 11 → (f : Found) → f ≡ beginAt begins suppliers (8 + id) → flagsFrom commands begins suppliers id (11 - id) ≡ flagAt commands id f ++ flagsFrom commands begins suppliers (id + 1) (11 - (id + 1))
-  unfolding flagsFrom
-  flags-turn h f e = let z : 11 - id ≡ suc (11 - (id + 1)) = omega (arith, h) in rw (z, e, add-one) refl
-
-  module _ (text : Text) where
-    pub texts-end : 7 ≤ id → textsFrom commands begins suppliers text id (7 - id) ≡ []
-    unfolding textsFrom
-    texts-end h = let z : 7 - id ≡ 0 = omega (arith, h) in rw z refl
-
-    pub texts-turn : id < 7 → (f : Found) → f ≡ beginAt begins suppliers (19 + id) → textsFrom commands begins suppliers text id (7 - id) ≡ textAt commands text id f ++ textsFrom commands begins suppliers text (id + 1) (7 - (id + 1))
-    unfolding textsFrom
-    texts-turn h f e = let z : 7 - id ≡ suc (7 - (id + 1)) = omega (arith, h) in rw (z, e, add-one) refl
-
--- what begin_at asks
-module _ (begins suppliers : List ℕ) (h : Reaches begins suppliers) (k : ℕ) (l : k < 28) where
-  pub reach : (k < length suppliers) × ((getD suppliers k 255 ≡ 255 → ⊥) → getD suppliers k 255 < length begins)
-  reach = (omega (arith, h .long, l), h .within k l)
+use Rattle.fields.specs.Fields.{GoodAt}
+use Rattle.listing.specs.Parts.{Lent}
 
 -- A field and what follows it, where the code has its supplier under a name
 

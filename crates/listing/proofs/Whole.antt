@@ -31,8 +31,9 @@ use Rattle.rows.specs.Records.{recordsOf, dirOf, Records}
 use Rattle.rows.proofs.Lists.{getD-any}
 use Rattle.rows.proofs.Fields.{slot-of-flag, slot-of-text, plain, found-place, found-rec, record-references, record-says, supplier-there, row-begin, place-sound, own-sound, site-none, site-at, site-plain}
 use Rattle.lines.specs.Lines.{builtPlace}
-use Rattle.fields.specs.Fields.{listAt, rootsAt, urlAt, placeAt, mappingAt, flagAt, textAt, GoodAt}
-use Rattle.listing.specs.Parts.{Lent, flagsFrom, textsFrom, optionsPart, placesPart, mappingPart, basePart, wholePart}
+use Rattle.fields.specs.Fields.{listAt, rootsAt, urlAt, placeAt, mappingAt, GoodAt}
+use Rattle.options.specs.Options.{flagAt, textAt, flagsFrom, textsFrom, optionsPart}
+use Rattle.listing.specs.Parts.{Lent, placesPart, mappingPart, basePart, wholePart}
 use Rattle.listing.proofs.Sizes.{whole-size, whole-room}
 use Rattle.emit.specs.Emit.{Room, Emits}
 

@@ -1,21 +1,15 @@
 -- The parts of a listing, as the functions that write them have them: of each field what its supplier says, read from the offset at which that
 -- record begins.
-use Prim.Native.Nat.{ℕ, zero, suc, _+_, _<_}
-use mathlib.Core.Path.{_≡_}
-use mathlib.Core.List.{List, [], _++_}
-use lib.ListN.{length, getD}
+use Prim.Native.Nat.{ℕ, _<_}
+use mathlib.Core.List.{List, _++_}
 use Rattle.text.specs.Bytes.{Text, bytes}
 use Rattle.book.specs.Command as command
 use Rattle.book.specs.Record.{strings}
 use Rattle.book.specs.Index.{recordAt}
 use Rattle.tsconfig.specs.Listing.{row, rows}
-use Rattle.rows.specs.Rows.{absent, beginAt}
-use Rattle.fields.specs.Fields.{listAt, rootsAt, urlAt, placeAt, mappingAt, flagAt, textAt, GoodAt}
-
--- a row of suppliers, each of which is there, and where the records begin
-pub record Reaches (begins suppliers : List ℕ) : Type 0 where
-  pub long : length suppliers ≡ 28
-  pub within : (k : ℕ) → k < 28 → (getD suppliers k absent ≡ absent → ⊥) → getD suppliers k absent < length begins
+use Rattle.rows.specs.Rows.{beginAt}
+use Rattle.options.specs.Options.{Reaches, optionsPart}
+use Rattle.fields.specs.Fields.{listAt, rootsAt, urlAt, placeAt, mappingAt, GoodAt}
 
 module _ (commands text : Text) where
   -- a row of suppliers, and where the records begin: the commands of each supplier are good
@@ -23,44 +17,28 @@ module _ (commands text : Text) where
     pub reaches : Reaches begins suppliers
     pub good : (k : ℕ) → k < 28 → GoodAt commands text (beginAt begins suppliers k)
 
-module _ (commands : Text) (begins suppliers : List ℕ) where
-  -- the flags from id on, k of them
-  unfoldable pub flagsFrom : ℕ → ℕ → Text
-  flagsFrom id zero = []
-  flagsFrom id (suc k) = flagAt commands id (beginAt begins suppliers (8 + id)) ++ flagsFrom (suc id) k
+module _ (commands : Text) (begins suppliers : List ℕ) (text : Text) (dir : Text) where
+  -- what follows the references
+  unfoldable pub placesPart : Text
+  placesPart =
+      rootsAt commands text dir (beginAt begins suppliers 5)
+      ++ (placeAt commands text (bytes "outDir") dir command.outDir (beginAt begins suppliers 6)
+      ++ (placeAt commands text (bytes "declarationDir") dir command.declarationDir (beginAt begins suppliers 7) ++ optionsPart commands begins suppliers text))
 
-  module _ (text : Text) where
-    -- the text options from id on, k of them
-    unfoldable pub textsFrom : ℕ → ℕ → Text
-    textsFrom id zero = []
-    textsFrom id (suc k) = textAt commands text id (beginAt begins suppliers (19 + id)) ++ textsFrom (suc id) k
+  module _ (base : Text) (rec : ℕ) where
+    -- what follows the base, where the references are those of the record that begins at rec
+    unfoldable pub mappingPart : Text
+    mappingPart =
+        mappingAt commands text dir base (beginAt begins suppliers 4)
+        ++ (rows (bytes "reference") (strings text command.reference (recordAt commands rec)) ++ placesPart)
 
-    -- the flags and the text options
-    unfoldable pub optionsPart : Text
-    optionsPart = flagsFrom 0 11 ++ textsFrom 0 7
+    -- what follows the lists
+    unfoldable pub basePart : Text
+    basePart = urlAt commands text dir (beginAt begins suppliers 3) ++ (row (bytes "base") base ++ mappingPart)
 
-    module _ (dir : Text) where
-      -- what follows the references
-      unfoldable pub placesPart : Text
-      placesPart =
-          rootsAt commands text dir (beginAt begins suppliers 5)
-          ++ (placeAt commands text (bytes "outDir") dir command.outDir (beginAt begins suppliers 6)
-          ++ (placeAt commands text (bytes "declarationDir") dir command.declarationDir (beginAt begins suppliers 7) ++ optionsPart))
-
-      module _ (base : Text) (rec : ℕ) where
-        -- what follows the base, where the references are those of the record that begins at rec
-        unfoldable pub mappingPart : Text
-        mappingPart =
-            mappingAt commands text dir base (beginAt begins suppliers 4)
-            ++ (rows (bytes "reference") (strings text command.reference (recordAt commands rec)) ++ placesPart)
-
-        -- what follows the lists
-        unfoldable pub basePart : Text
-        basePart = urlAt commands text dir (beginAt begins suppliers 3) ++ (row (bytes "base") base ++ mappingPart)
-
-        -- the whole listing
-        unfoldable pub wholePart : Text
-        wholePart =
-            listAt commands text (bytes "files") dir command.file (beginAt begins suppliers 0)
-            ++ (listAt commands text (bytes "include") dir command.includeItem (beginAt begins suppliers 1)
-            ++ (listAt commands text (bytes "exclude") dir command.excludeItem (beginAt begins suppliers 2) ++ basePart))
+    -- the whole listing
+    unfoldable pub wholePart : Text
+    wholePart =
+        listAt commands text (bytes "files") dir command.file (beginAt begins suppliers 0)
+        ++ (listAt commands text (bytes "include") dir command.includeItem (beginAt begins suppliers 1)
+        ++ (listAt commands text (bytes "exclude") dir command.excludeItem (beginAt begins suppliers 2) ++ basePart))

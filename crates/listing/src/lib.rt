@@ -4,15 +4,14 @@ use book::EXCLUDE_ITEM;
 use book::FILE;
 use book::INCLUDE_ITEM;
 use book::OUT_DIR;
-use fields::put_flag;
 use fields::put_list;
 use fields::put_mapping;
 use fields::put_place;
 use fields::put_roots;
-use fields::put_text_option;
 use fields::put_url;
 use lines::put_references;
 use lines::put_row;
+use options::put_options;
 use rows::begin_at;
 use values::dir_at;
 ghost use mathlib.Core.Path.{_≡_};
@@ -23,74 +22,10 @@ ghost use Rattle.tsconfig.specs.Listing.{listing};
 ghost use Rattle.tsconfig_resolver.specs.Find as find;
 ghost use Rattle.rows.specs.Rows.{Row, numberOf, siteOf};
 ghost use Rattle.rows.specs.Records.{Records, recordsOf};
-ghost use Rattle.listing.specs.Parts.{Lent, Reaches, flagsFrom, textsFrom, optionsPart, placesPart, mappingPart, basePart, wholePart};
+ghost use Rattle.listing.specs.Parts.{Lent, placesPart, mappingPart, basePart, wholePart};
 
-// The places in a row of suppliers at which the flags and the text options begin, and that of the row's own record. The other fields
-// stand at 0 to 7.
-const FLAGS: usize = 8;
-
-const TEXTS: usize = 19;
-
+// The place in a row of suppliers of the row's own record. The fields other than the options stand at 0 to 7.
 const OWN: usize = 27;
-
-// Writes the flags by rising id.
-fn put_flags(
-    out: &mut [u8],
-    at: usize,
-    commands: &[u8],
-    begins: &[usize],
-    suppliers: &[u8],
-) -> usize
-    requires { ⌜ Reaches (now begins) (now suppliers) × Room at (flagsFrom (now commands) (now begins) (now suppliers) 0 11) ⌝ }
-    ensures { λ r. ⌜ Emits (flagsFrom (now (commands .entry)) (now (begins .entry)) (now (suppliers .entry)) 0 11) (now (out .entry)) at (now (out .exit)) r ⌝ }
-{
-    let mut k = at;
-    let mut id = 0u8;
-    while id < 11 {
-        let found = begin_at(begins, suppliers, FLAGS + id as usize);
-        k = put_flag(out, k, commands, found, id);
-        id += 1;
-    }
-    k
-}
-
-// Writes the text options by rising id.
-fn put_texts(
-    out: &mut [u8],
-    at: usize,
-    commands: &[u8],
-    text: &[u8],
-    begins: &[usize],
-    suppliers: &[u8],
-) -> usize
-    requires { ⌜ Reaches (now begins) (now suppliers) × Room at (textsFrom (now commands) (now begins) (now suppliers) (now text) 0 7) ⌝ }
-    ensures { λ r. ⌜ Emits (textsFrom (now (commands .entry)) (now (begins .entry)) (now (suppliers .entry)) (now (text .entry)) 0 7) (now (out .entry)) at (now (out .exit)) r ⌝ }
-{
-    let mut k = at;
-    let mut id = 0u8;
-    while id < 7 {
-        let found = begin_at(begins, suppliers, TEXTS + id as usize);
-        k = put_text_option(out, k, commands, text, found, id);
-        id += 1;
-    }
-    k
-}
-
-// Writes the flags and the text options.
-fn put_options(
-    out: &mut [u8],
-    at: usize,
-    commands: &[u8],
-    text: &[u8],
-    begins: &[usize],
-    suppliers: &[u8],
-) -> usize
-    requires { ⌜ Reaches (now begins) (now suppliers) × Room at (optionsPart (now commands) (now begins) (now suppliers) (now text)) ⌝ }
-    ensures { λ r. ⌜ Emits (optionsPart (now (commands .entry)) (now (begins .entry)) (now (suppliers .entry)) (now (text .entry))) (now (out .entry)) at (now (out .exit)) r ⌝ }
-{
-    let k = put_flags(out, at, commands, begins, suppliers);
-    put_texts(out, k, commands, text, begins, suppliers)
-}
 
 // Writes what follows the references.
 fn put_places(

@@ -1,5 +1,6 @@
 use native.Mathlib.Omega.{arith}
-use Rattle.listing.proofs.Turns.{reach, good-of}
+use Rattle.options.proofs.Ways.{reach}
+use Rattle.listing.proofs.Turns.{good-of}
 use Rattle.listing.proofs.Joins.{base-1, base-2, base-3, base-end}
 use borrow.Author.Needs.{needs}
 use Rattle.listing.proofs.put_bases.Statement.{statement}

@@ -1,5 +1,6 @@
 use native.Mathlib.Omega.{arith}
-use Rattle.listing.proofs.Turns.{reach, good-of}
+use Rattle.options.proofs.Ways.{reach}
+use Rattle.listing.proofs.Turns.{good-of}
 use Rattle.listing.proofs.Joins.{places-1, places-2, places-3, places-4, places-end}
 use borrow.Author.Needs.{needs}
 use Rattle.listing.proofs.put_places.Statement.{statement}

@@ -1,5 +1,6 @@
 use native.Mathlib.Omega.{arith}
-use Rattle.listing.proofs.Turns.{reach, good-of}
+use Rattle.options.proofs.Ways.{reach}
+use Rattle.listing.proofs.Turns.{good-of}
 use Rattle.listing.proofs.Joins.{rest-1, rest-2, rest-3, rest-end}
 use borrow.Author.Needs.{needs}
 use Rattle.listing.proofs.put_rest.Statement.{statement}

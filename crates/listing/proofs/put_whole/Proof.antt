@@ -1,5 +1,6 @@
 use native.Mathlib.Omega.{arith}
-use Rattle.listing.proofs.Turns.{reach, good-of}
+use Rattle.options.proofs.Ways.{reach}
+use Rattle.listing.proofs.Turns.{good-of}
 use Rattle.listing.proofs.Joins.{whole-1, whole-2, whole-3, whole-4, whole-end}
 use borrow.Author.Needs.{needs}
 use Rattle.listing.proofs.put_whole.Statement.{statement}

@@ -1,14 +1,8 @@
 use Rattle.rows.specs.Records.{recordsOf}
 use Rattle.references.proofs.Refers.{refer-self, refer-unread, refer-next, refer-ready, refer-walk}
-use native.Mathlib.Omega.{arith}
 use borrow.Author.Needs.{needs}
 use Rattle.references.proofs.refer.Statement.{statement}
 use Rattle.references.proofs.refer.Tie as tie
-use Rattle.references.proofs.refer.Reads as reads
-use Rattle.references.proofs.refer.Lts as lts
-use Rattle.entries.proofs.open_record.Reads as open-record-reads
-use Rattle.load.proofs.walk.Reads as walk-reads
-use Rattle.text.proofs.upto.Reads as upto-reads
 
 returns : tie.Need-returns
 returns c = let a = c .before .before .before .before .before .before .before .before .args in record { told = refer-self (recordsOf (a .commands .now) (a .text .now)) (a .c) (a .r) (c .if1 .taken) _ }

@@ -1,7 +1,7 @@
-use Rattle.listing.proofs.Joins.{options-1, options-2, options-end}
+use Rattle.options.proofs.Ways.{options-1, options-2, options-end}
 use borrow.Author.Needs.{needs}
-use Rattle.listing.proofs.put_options.Statement.{statement}
-use Rattle.listing.proofs.put_options.Tie as tie
+use Rattle.options.proofs.put_options.Statement.{statement}
+use Rattle.options.proofs.put_options.Tie as tie
 
 put-flags-requires : tie.Need-put-flags-requires
 put-flags-requires c κs = ((c .before .before .before .before .before .before .pre) .0, options-1 _ _ _ _ _ ((c .before .before .before .before .before .before .pre) .1))

@@ -1,7 +1,8 @@
-use Rattle.lines.proofs.Rows.{room-as, emits-as, flag-on, flag-off}
+use Rattle.lines.proofs.Rows.{room-as, emits-as}
+use Rattle.options.proofs.Numbers.{flag-on, flag-off}
 use borrow.Author.Needs.{needs}
-use Rattle.lines.proofs.put_flag_row.Statement.{statement}
-use Rattle.lines.proofs.put_flag_row.Tie as tie
+use Rattle.options.proofs.put_flag_row.Statement.{statement}
+use Rattle.options.proofs.put_flag_row.Tie as tie
 
 slice-aggregate-put-option : tie.Need-slice-aggregate-put-option
 slice-aggregate-put-option c = search needs

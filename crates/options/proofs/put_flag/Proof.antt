@@ -1,8 +1,8 @@
 use Rattle.lines.proofs.Rows.{room-as, emits-as, emits-nothing}
-use Rattle.fields.proofs.Ways.{flag-none, flag-unset, flag-set}
+use Rattle.options.proofs.Ways.{flag-none, flag-unset, flag-set}
 use borrow.Author.Needs.{needs}
-use Rattle.fields.proofs.put_flag.Statement.{statement}
-use Rattle.fields.proofs.put_flag.Tie as tie
+use Rattle.options.proofs.put_flag.Statement.{statement}
+use Rattle.options.proofs.put_flag.Tie as tie
 
 enum-known-found : tie.Need-enum-known-found
 enum-known-found c = search needs

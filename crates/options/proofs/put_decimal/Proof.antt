@@ -1,7 +1,7 @@
-use Rattle.lines.proofs.Chains.{room-low, emits-low, room-one, room-unit, emits-high}
+use Rattle.options.proofs.Numbers.{room-low, emits-low, room-one, room-unit, emits-high}
 use borrow.Author.Needs.{needs}
-use Rattle.lines.proofs.put_decimal.Statement.{statement}
-use Rattle.lines.proofs.put_decimal.Tie as tie
+use Rattle.options.proofs.put_decimal.Statement.{statement}
+use Rattle.options.proofs.put_decimal.Tie as tie
 
 add-put : tie.Need-add-put
 add-put c = search needs

@@ -3,11 +3,11 @@ use Prim.Native.Nat.{_-_, _≤_}
 use lib.ListN.{length}
 use native.Mathlib.Omega.{arith}
 use Rattle.emit.proofs.Emits.{Owes, owes-all, owes-step, owes-room, owes-end}
-use Rattle.listing.specs.Parts.{textsFrom}
-use Rattle.listing.proofs.Turns.{texts-end, texts-turn, reach}
+use Rattle.options.specs.Options.{textsFrom}
+use Rattle.options.proofs.Ways.{texts-end, texts-turn, reach}
 use borrow.Author.Needs.{needs}
-use Rattle.listing.proofs.put_texts.Statement.{statement}
-use Rattle.listing.proofs.put_texts.Tie as tie
+use Rattle.options.proofs.put_texts.Statement.{statement}
+use Rattle.options.proofs.put_texts.Tie as tie
 
 abbrev Inv-loop : tie.InvT-loop
 Inv-loop out₀ at commands text begins suppliers k₀ id₀ out k id = (id ≤ 7) × ((length out ≡ length out₀) × Owes (textsFrom commands begins suppliers text 0 7) out₀ at (textsFrom commands begins suppliers text id (7 - id)) out k)

@@ -1,7 +1,7 @@
-use Rattle.lines.proofs.Chains.{room-option, room-id, room-set, emits-option}
+use Rattle.options.proofs.Numbers.{room-option, room-id, room-set, emits-option}
 use borrow.Author.Needs.{needs}
-use Rattle.lines.proofs.put_option.Statement.{statement}
-use Rattle.lines.proofs.put_option.Tie as tie
+use Rattle.options.proofs.put_option.Statement.{statement}
+use Rattle.options.proofs.put_option.Tie as tie
 
 put-text-requires : tie.Need-put-text-requires
 put-text-requires c κs = room-option _ _ _ _ (c .before .before .before .before .pre .1)

@@ -3,11 +3,11 @@ use Prim.Native.Nat.{_-_, _≤_}
 use lib.ListN.{length}
 use native.Mathlib.Omega.{arith}
 use Rattle.emit.proofs.Emits.{Owes, owes-all, owes-step, owes-room, owes-end}
-use Rattle.listing.specs.Parts.{flagsFrom}
-use Rattle.listing.proofs.Turns.{flags-end, flags-turn, reach}
+use Rattle.options.specs.Options.{flagsFrom}
+use Rattle.options.proofs.Ways.{flags-end, flags-turn, reach}
 use borrow.Author.Needs.{needs}
-use Rattle.listing.proofs.put_flags.Statement.{statement}
-use Rattle.listing.proofs.put_flags.Tie as tie
+use Rattle.options.proofs.put_flags.Statement.{statement}
+use Rattle.options.proofs.put_flags.Tie as tie
 
 abbrev Inv-loop : tie.InvT-loop
 Inv-loop out₀ at commands begins suppliers k₀ id₀ out k id = (id ≤ 11) × ((length out ≡ length out₀) × Owes (flagsFrom commands begins suppliers 0 11) out₀ at (flagsFrom commands begins suppliers id (11 - id)) out k)
