@@ -42,9 +42,75 @@ def usual(book, n):
     book.lone(18, 0, 1, 20)
 
 
-def large(book, n):
+def shared(book, count):
+    """The base config of a workspace: a key for each package."""
+    book.put(1, '/repo/tsconfig.base.json')
+    book.put(9, '.')
+    book.lone(10)
+    for n in range(count):
+        book.put(11, f'@repo/part-{n:02}/*')
+        book.put(12, f'packages/part-{n:02}/src/*')
+    book.lone(18, 0, 0)
+    for id, value in ((0, 'react-jsx'), (4, 'node'), (5, 'esnext')):
+        start, n = len(book.text), len(value)
+        book.text += value.encode()
+        book.lone(19, id, start % 256, start // 256, n % 256, n // 256)
+    book.lone(20)
+
+
+def solution(book, count):
+    """The root config of a workspace: nothing but references."""
+    book.put(1, '/repo/tsconfig.json')
+    book.lone(2)
+    for n in range(count):
+        book.put(13, f'packages/part-{n:02}')
+    book.lone(20)
+
+
+def member(book, n):
+    """A package of a workspace, with the packages that it needs as references."""
     book.put(1, f'/repo/packages/part-{n:02}/tsconfig.json')
     book.put(8, '../../tsconfig.base.json')
+    book.lone(4)
+    book.put(5, 'src/**/*')
+    book.lone(6)
+    book.put(7, 'dist')
+    book.put(7, '**/*.test.ts')
+    for before in range(max(0, n - 4), n):
+        book.put(13, f'../part-{before:02}')
+    book.put(16, 'dist')
+    book.lone(20)
+
+
+def workspace():
+    book = Book()
+    shared(book, 18)
+    solution(book, 16)
+    for n in range(18):
+        member(book, n)
+    last = '/repo/packages/part-17'
+    return book, [f'B {last}/tsconfig.json', f'O {last}/src/a/b.ts', f'C {last}/tsconfig.json\t@repo/part-09/x', f'C {last}/tsconfig.json\tother/x']
+
+
+def wide(count):
+    """The packages of `limits`; the last one extends the eight before it and refers to the sixteen before those."""
+    book = Book()
+    base(book)
+    for n in range(count - 1):
+        large(book, n)
+    large(book, count - 1, [f'../part-{n:02}/tsconfig.json' for n in range(count - 9, count - 1)])
+    end = book.commands.pop()
+    for n in range(count - 25, count - 9):
+        book.put(13, f'../part-{n:02}')
+    book.lone(end)
+    last = f'/repo/packages/part-{count - 1:02}'
+    return book, [f'B {last}/tsconfig.json', f'O {last}/src/a/b.ts', f'C {last}/tsconfig.json\t@p{count - 1:02}k05/x', f'C {last}/tsconfig.json\tother/x']
+
+
+def large(book, n, extends=('../../tsconfig.base.json',)):
+    book.put(1, f'/repo/packages/part-{n:02}/tsconfig.json')
+    for entry in extends:
+        book.put(8, entry)
     book.lone(2)
     for i in range(30):
         book.put(3, f'src/f{i:02}.ts')
@@ -98,7 +164,7 @@ def alone():
 
 
 def main(folder):
-    books = {'typical': packages(usual, 19), 'limits': packages(large, 63)}
+    books = {'typical': packages(usual, 19), 'workspace': workspace(), 'limits': packages(large, 63), 'wide': wide(63)}
     rungs = Book()
     for n in range(60):
         ladder(rungs, n)

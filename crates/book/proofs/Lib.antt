@@ -6,7 +6,6 @@ pub mod Keeps
 pub mod Rows
 pub mod Faults
 pub mod Turns
-pub mod Books
 pub mod Reading
 pub mod Accepted
 pub mod Written

@@ -1,10 +1,9 @@
-// The book: its commands, and the check of each in turn.
+// The book: its commands, and what is wrong with one of them, given those before it.
 use strings::covers;
 use strings::digest;
 use strings::is_pattern_of;
 use strings::is_record_path_of;
 use strings::is_string_of;
-use strings::is_tame;
 use strings::obeys_lead;
 use text::from;
 use text::upto;
@@ -21,8 +20,6 @@ ghost use Rattle.book.specs.Command.{begin, key, target, widthOf, word, 
 ghost use Rattle.book.specs.Rules.{slot, openers, limits, inOrder, tooMany, textOf, ownRule, goodString, faultOf};
 ghost use Rattle.book.specs.Steps.{stepAt};
 ghost use Rattle.book.specs.State.{Slotted, has, pushed, texts, Table, Marked, meets, number};
-ghost use Rattle.book.specs.Index.{JudgedAs};
-ghost use Rattle.book.specs.Checks.{CheckedAs};
 
 // The commands, by their byte.
 
@@ -69,10 +66,6 @@ pub const END: u8 = 0x14;
 // The bytes of a string's start and length.
 const SPAN: usize = 4;
 
-const MOST_COMMANDS: usize = 32768;
-
-const MOST_TEXT: usize = 65535;
-
 const MOST_RECORDS: usize = 64;
 
 // The least that a limit is.
@@ -89,7 +82,7 @@ const TEXT_SLOTS: usize = 32;
 const SLOTS: usize = 39;
 
 // Stands for a number of keys where a key was given before: a record may have 32.
-const MET: usize = 33;
+pub const MET: usize = 33;
 
 // A command: its byte, the id and value of a flag, the id of a text option, and start and length of its string. What it has not is 0.
 pub struct Cmd {
@@ -155,7 +148,7 @@ fn width(op: u8) -> usize
 }
 
 // Two bytes, low first.
-fn word_at(s: &[u8], at: usize) -> usize
+pub fn word_at(s: &[u8], at: usize) -> usize
     requires { ⌜ at + 1 < length (now s) ⌝ }
     ensures { λ r. ⌜ r ≡ word (now (s .entry)) at ⌝ }
 {
@@ -309,7 +302,7 @@ fn good_string(tame: bool, text: &[u8], c: Cmd) -> bool
 }
 
 // What a command counts as; SLOTS where its id or value is out of range.
-fn slot_of(c: Cmd) -> usize
+pub fn slot_of(c: Cmd) -> usize
     requires { ⌜ c .op < 21 ⌝ }
     ensures { λ r. ⌜ Slotted r c ⌝ }
 {
@@ -443,7 +436,7 @@ fn is_too_many(counts: &[u8], c: Cmd, k: usize, n: usize) -> bool
 }
 
 // One command more, whose slot is k; a key counts its targets anew. The command's byte.
-fn push(counts: &mut [u8], c: Cmd, k: usize) -> u8
+pub fn push(counts: &mut [u8], c: Cmd, k: usize) -> u8
     requires { ⌜ (k < 39) × ((has (now counts) k < 255) × (length (now counts) ≡ 39)) ⌝ }
     ensures { λ r. ⌜ r ≡ c .op ⌝ }
     ensures { λ r. ⌜ now (counts .exit) ≡ pushed (now (counts .entry)) c k ⌝ }
@@ -520,7 +513,7 @@ fn is_met(
 }
 
 // The lowest refusal of a command, 0 for none; a key is not held against those before. Before it stand n records.
-fn fault_of(
+pub fn fault_of(
     tame: bool,
     text: &[u8],
     counts: &[u8],
@@ -559,7 +552,7 @@ fn fault_of(
 }
 
 // A key's row put into the table, whose digests are km; how many rows there are then, or MET where the key was given before.
-fn put_key(
+pub fn put_key(
     text: &[u8],
     ks: &mut [usize],
     kl: &mut [usize],
@@ -590,64 +583,11 @@ fn put_key(
     m + 1
 }
 
-enum Checked {
+pub enum Checked {
     // A refusal's number and place.
     Refused(u32, usize),
     // Where the record's commands end, and its path's start and length.
     Closed(usize, usize, usize),
-}
-
-// One record's commands, from its BEGIN on, which stands at base. Before it stand n records, with the starts, lengths and digests of their paths.
-fn check_record(
-    tame: bool,
-    part: &[u8],
-    base: usize,
-    text: &[u8],
-    starts: &[usize],
-    lens: &[usize],
-    marks: &[u8],
-    n: usize,
-) -> Checked
-    requires { ⌜ (0 < length (now part)) × (base + length (now part) ≤ 32768) ⌝ }
-    requires { ⌜ (tame ≡ true → tameText (now text) ≡ true) ⌝ }
-    requires { ⌜ Table (now text) (now starts) (now lens) n × Marked (now text) (now starts) (now lens) (now marks) n ⌝ }
-    ensures { λ r. ⌜ CheckedAs (now (part .entry)) base (now (text .entry)) (now (starts .entry)) (now (lens .entry)) n r ⌝ }
-{
-    let mut counts = [0u8; 39];
-    let mut last: u8 = 0;
-    let mut ks = [0usize; 32];
-    let mut kl = [0usize; 32];
-    let mut km = [0u8; 32];
-    let mut m = 0;
-    let mut cursor = Cursor { at: 0 };
-    loop {
-        let place = base + cursor.at;
-        match cursor.step(part) {
-            Step::End => return Checked::Refused(2, place),
-            Step::Broken => return Checked::Refused(2, place),
-            Step::Command(c, next) => {
-                let k = slot_of(c);
-                let f = fault_of(tame, text, &counts, last, c, k, starts, lens, marks, n);
-                if f != 0 {
-                    return Checked::Refused(f, place);
-                }
-                let rows = put_key(text, &mut ks, &mut kl, &mut km, m, c);
-                if rows == MET {
-                    return Checked::Refused(6, place);
-                }
-                let op = c.op;
-                if op == END {
-                    let end = base + next.at;
-                    let start = word_at(part, 1);
-                    let len = word_at(part, 3);
-                    return Checked::Closed(end, start, len);
-                }
-                m = rows;
-                last = push(&mut counts, c, k);
-                cursor = next;
-            }
-        }
-    }
 }
 
 pub enum Judged {
@@ -655,83 +595,4 @@ pub enum Judged {
     No(u32, usize),
     // How many records there are.
     Yes(usize),
-}
-
-// Whether the text is known to be tame. A text that is long beside the commands is not looked at as a whole.
-fn is_known_tame(commands: usize, text: &[u8]) -> bool
-    ensures { λ r. ⌜ (r ≡ true → tameText (now (text .entry)) ≡ true) ⌝ }
-{
-    if commands < text.len() / 8 {
-        return false;
-    }
-    is_tame(text)
-}
-
-// Each record in turn. The tables have a row for each record that a book may have.
-fn check_records(
-    commands: &[u8],
-    text: &[u8],
-    begins: &mut [usize],
-    starts: &mut [usize],
-    lens: &mut [usize],
-    marks: &mut [u8],
-) -> Judged
-    requires { ⌜ (length (now begins) ≡ 64) × ((length (now starts) ≡ 64) × ((length (now lens) ≡ 64) × (length (now marks) ≡ 64))) ⌝ }
-    ensures { λ r. ⌜ JudgedAs (now (commands .entry)) (now (text .entry)) (now (begins .exit)) (now (starts .exit)) (now (lens .exit)) r ⌝ }
-{
-    if MOST_COMMANDS < commands.len() {
-        return Judged::No(1, 0);
-    }
-    if MOST_TEXT < text.len() {
-        return Judged::No(1, 0);
-    }
-    let tame = is_known_tame(commands.len(), text);
-    let mut n = 0;
-    let mut at = 0;
-    while at < commands.len() {
-        let part = from(commands, at);
-        match check_record(tame, part, at, text, starts, lens, marks, n) {
-            Checked::Refused(k, p) => return Judged::No(k, p),
-            Checked::Closed(to, start, len) => {
-                let path = piece(text, start, len);
-                let mark = digest(path);
-                begins[n] = at;
-                starts[n] = start;
-                lens[n] = len;
-                marks[n] = mark;
-                n += 1;
-                at = to;
-            }
-        }
-    }
-    Judged::Yes(n)
-}
-
-// The verdict on a book, over tables that are lent as slices.
-pub fn check_tables(
-    commands: &[u8],
-    text: &[u8],
-    begins: &mut [usize],
-    starts: &mut [usize],
-    lens: &mut [usize],
-) -> Judged
-    requires { ⌜ (length (now begins) ≡ 64) × ((length (now starts) ≡ 64) × (length (now lens) ≡ 64)) ⌝ }
-    ensures { λ r. ⌜ JudgedAs (now (commands .entry)) (now (text .entry)) (now (begins .exit)) (now (starts .exit)) (now (lens .exit)) r ⌝ }
-{
-    let mut marks = [0u8; 64];
-    check_records(commands, text, begins, starts, lens, &mut marks)
-}
-
-// The verdict on a book: how many records it has, or the first refusal. Of an accepted book the tables are an index: begins[i] is the offset
-// of record i's BEGIN, starts[i] and lens[i] are its path's place in the text. The rows after the last record's are left open.
-pub fn check_book(
-    commands: &[u8],
-    text: &[u8],
-    begins: &mut [usize; 64],
-    starts: &mut [usize; 64],
-    lens: &mut [usize; 64],
-) -> Judged
-    ensures { λ r. ⌜ JudgedAs (now (commands .entry)) (now (text .entry)) (now (begins .exit)) (now (starts .exit)) (now (lens .exit)) r ⌝ }
-{
-    check_tables(commands, text, begins, starts, lens)
 }

@@ -2,7 +2,7 @@
 // file is. Writes for each group its name, its entries, the books judged, the entries that disagree, and the number of the first of these,
 // 0 where there is none.
 use book::Judged;
-use book::check_book;
+use checker::check_book;
 use libc::STDOUT_FILENO;
 use text::from;
 use text::upto;

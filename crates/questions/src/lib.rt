@@ -1,6 +1,6 @@
 // The questions, as C functions on numbers and byte slices.
 use book::Judged;
-use book::check_tables;
+use checker::check_tables;
 use listing::put_listing;
 use mapping::Listed;
 use mapping::put_candidates;

@@ -3,6 +3,7 @@
 mod asked;
 mod clock;
 mod files;
+mod floor;
 mod measure;
 
 use std::path::Path;
@@ -11,7 +12,7 @@ use std::process::{Command, ExitCode};
 use asked::{Book, Line, fresh_answers, library_answers};
 use measure::{Measured, measure, measure_whole};
 
-const BOOKS: [&str; 4] = ["typical", "limits", "ladder", "hostile"];
+const BOOKS: [&str; 6] = ["typical", "workspace", "limits", "wide", "ladder", "hostile"];
 const GROWTH: [usize; 7] = [1, 2, 4, 8, 16, 32, 64];
 const USAGE: &str = "bench FOLDER ROUNDS";
 
@@ -73,19 +74,21 @@ fn cells(measured: &Measured) -> String {
 }
 
 fn whole(folder: &Path, rounds: usize) -> Result<(), String> {
-    println!("\n| book | configs | library's check, us | crate, every config loaded, us | ratio |\n|---|---|---|---|---|");
+    println!("\n| book | configs | library's check, us | crate, every config loaded, us | ratio | a bare pass, us |\n|---|---|---|---|---|---|");
     for name in BOOKS {
         let (book, _) = Book::open(folder, name)?;
-        let [check, load] = measure_whole(&book, rounds);
+        let [check, load, bare] = measure_whole(&book, rounds);
         println!(
-            "| {name} | {} | {} / {} | {} / {} | {:.1}, {:.1} |",
+            "| {name} | {} | {} / {} | {} / {} | {:.1}, {:.1} | {} / {} |",
             book.configs.len(),
             micro(check.least()),
             micro(check.median()),
             micro(load.least()),
             micro(load.median()),
             load.least() / check.least(),
-            load.over(&check).median()
+            load.over(&check).median(),
+            micro(bare.least()),
+            micro(bare.median())
         );
     }
     Ok(())

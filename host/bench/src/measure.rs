@@ -1,9 +1,11 @@
 //! Times of three ways to answer a question, taken in turn.
 
+use std::hint::black_box;
 use std::time::Duration;
 
 use crate::asked::{Book, Line, crate_answers, crate_loads_all, fresh_answers, library_answers};
 use crate::clock;
+use crate::floor::bare_pass;
 
 /// How long one way is measured in a round.
 const ROUND: Duration = Duration::from_millis(4);
@@ -69,8 +71,8 @@ pub struct Measured {
     pub warm: Times,
 }
 
-/// The library's check of a book, which each question begins with, and the crate's load of all the book's configs.
-pub fn measure_whole(book: &Book, rounds: usize) -> [Times; 2] {
+/// The library's check of a book, which each question begins with; the crate's load of all the book's configs; and the least that a check must do.
+pub fn measure_whole(book: &Book, rounds: usize) -> [Times; 3] {
     let mut out = Box::new([0; 1 << 18]);
     let line = Line::refused();
     assert_eq!(library_answers(book, &line, &mut out), 7, "the book is accepted");
@@ -80,6 +82,9 @@ pub fn measure_whole(book: &Book, rounds: usize) -> [Times; 2] {
         }),
         Way::new(|| {
             crate_loads_all(&book.fresh(), book);
+        }),
+        Way::new(|| {
+            assert!(black_box(bare_pass(black_box(&book.commands), black_box(&book.text))));
         }),
     ];
     for _ in 0..rounds {

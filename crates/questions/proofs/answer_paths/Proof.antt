@@ -7,7 +7,7 @@ use Rattle.questions.proofs.answer_paths.Statement.{statement}
 use Rattle.questions.proofs.answer_paths.Tie as tie
 use Rattle.questions.proofs.answer_paths.Reads as reads
 use Rattle.questions.proofs.answer_paths.Lts as lts
-use Rattle.book.proofs.check_tables.Reads as check-tables-reads
+use Rattle.checker.proofs.check_tables.Reads as check-tables-reads
 use Rattle.questions.proofs.paths.Reads as paths-reads
 use Rattle.questions.proofs.refuse.Reads as refuse-reads
 

@@ -19,7 +19,7 @@ use Rattle.questions.proofs.tsconfig_build.Statement.{statement}
 use Rattle.questions.proofs.tsconfig_build.Tie as tie
 use Rattle.questions.proofs.tsconfig_build.Reads as reads
 use Rattle.questions.proofs.tsconfig_build.Lts as lts
-use Rattle.book.proofs.check_tables.Reads as check-tables-reads
+use Rattle.checker.proofs.check_tables.Reads as check-tables-reads
 use Rattle.questions.proofs.build.Reads as build-reads
 use Rattle.questions.proofs.refuse.Reads as refuse-reads
 

@@ -20,7 +20,7 @@ use Rattle.questions.proofs.tsconfig_owner.Statement.{statement}
 use Rattle.questions.proofs.tsconfig_owner.Tie as tie
 use Rattle.questions.proofs.tsconfig_owner.Reads as reads
 use Rattle.questions.proofs.tsconfig_owner.Lts as lts
-use Rattle.book.proofs.check_tables.Reads as check-tables-reads
+use Rattle.checker.proofs.check_tables.Reads as check-tables-reads
 use Rattle.questions.proofs.owner.Reads as owner-reads
 use Rattle.questions.proofs.refuse.Reads as refuse-reads
 

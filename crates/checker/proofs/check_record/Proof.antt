@@ -1,11 +1,11 @@
 use mathlib.Core.Path.{refl, sym}
 use Prim.Native.Nat.{_-_}
 use lib.ListN.{length}
 use Rattle.book.proofs.Turns.{Sofar, sofar-none, turn-broken, turn-end, turn-refused, turn-met, turn-long, turn-closed, turn-on, turn-less, turn-place, byte-known, slot-small, slot-room, key-room, clear-on, rows-on}
 use native.Mathlib.Omega.{arith}
 use borrow.Author.Needs.{needs}
-use Rattle.book.proofs.check_record.Statement.{statement}
-use Rattle.book.proofs.check_record.Tie as tie
+use Rattle.checker.proofs.check_record.Statement.{statement}
+use Rattle.checker.proofs.check_record.Tie as tie
 
 abbrev Inv-loop : tie.InvT-loop
 Inv-loop tame part base text starts lens marks n counts₀ last₀ ks₀ kl₀ km₀ m₀ cursor₀ counts last ks kl km m cursor =

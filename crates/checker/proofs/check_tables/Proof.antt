@@ -1,6 +1,6 @@
 use mathlib.Core.Path.{refl}
-use Rattle.book.proofs.check_tables.Statement.{statement}
-use Rattle.book.proofs.check_tables.Tie as tie
+use Rattle.checker.proofs.check_tables.Statement.{statement}
+use Rattle.checker.proofs.check_tables.Tie as tie
 
 slice-aggregate-check-records : tie.Need-slice-aggregate-check-records
 slice-aggregate-check-records c = refl

@@ -1,8 +1,8 @@
 use mathlib.Core.Path.{sym, _∙_}
 use mathlib.Core.Bool.{true≢false}
 use borrow.Author.Needs.{needs}
-use Rattle.book.proofs.is_known_tame.Statement.{statement}
-use Rattle.book.proofs.is_known_tame.Tie as tie
+use Rattle.checker.proofs.is_known_tame.Statement.{statement}
+use Rattle.checker.proofs.is_known_tame.Tie as tie
 
 returns : tie.Need-returns
 returns c = λ e. absurd (true≢false (sym e))

@@ -2,11 +2,11 @@ use mathlib.Core.Path.{ap, _∙_}
 use Prim.Native.Nat.{_-_}
 use lib.ListN.{length, length-drop}
 use Rattle.strings.specs.Scan.{digestFrom}
-use Rattle.book.proofs.Books.{Booked, booked-none, booked-end, booked-refused, booked-few, booked-less, booked-on, size-commands, size-text}
+use Rattle.checker.proofs.Books.{Booked, booked-none, booked-end, booked-refused, booked-few, booked-less, booked-on, size-commands, size-text}
 use native.Mathlib.Omega.{arith}
 use borrow.Author.Needs.{needs}
-use Rattle.book.proofs.check_records.Statement.{statement}
-use Rattle.book.proofs.check_records.Tie as tie
+use Rattle.checker.proofs.check_records.Statement.{statement}
+use Rattle.checker.proofs.check_records.Tie as tie
 
 abbrev Inv-loop : tie.InvT-loop
 Inv-loop commands text begins₀ starts₀ lens₀ marks₀ tame n₀ at₀ begins starts lens marks n at = Booked commands text begins starts lens marks n at

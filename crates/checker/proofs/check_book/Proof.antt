@@ -1,6 +1,6 @@
 use mathlib.Core.Path.{refl}
-use Rattle.book.proofs.check_book.Statement.{statement}
-use Rattle.book.proofs.check_book.Tie as tie
+use Rattle.checker.proofs.check_book.Statement.{statement}
+use Rattle.checker.proofs.check_book.Tie as tie
 
 check-tables-requires : tie.Need-check-tables-requires
 check-tables-requires c κs = (c .before .before .check-tables-arg .given .0 .1, (c .before .check-tables-arg2 .given .0 .1, c .check-tables-arg3 .given .0 .1))

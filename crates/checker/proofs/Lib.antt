@@ -1,0 +1,2 @@
+-- The laws of the loop over the records.
+pub mod Books
