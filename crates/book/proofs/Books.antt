@@ -19,7 +19,7 @@ use Rattle.book.specs.Rules.{pathOf}
 use Rattle.book.specs.Book.{judge, finish, verdict}
 use Rattle.book.specs.Index.{upToEnd, recordAt, beginsOf, Row, AcceptedAs}
 use Rattle.book.specs.State.{texts, Table, Marked}
-use Rattle.strings.specs.Scan.{digestFrom}
+use Rattle.compare.specs.Compare.{digestFrom}
 use Rattle.book.specs.Checks.{Held, ClosedAs, CheckedAs}
 use Rattle.book.proofs.Turns.{texts-put, table-put, marked-put}
 
