@@ -1,4 +1,4 @@
-// The rules of crate strings on one text of 512 bytes. `drive` times 6,400 calls of each; `drive RULE KIND COUNT` makes COUNT calls of one, to
+// The rules of strings, paths and patterns on one text of 512 bytes. `drive` times 6,400 calls of each; `drive RULE KIND COUNT` makes COUNT calls of one, to
 // be counted by valgrind. See bench.sh.
 use std::hint::black_box;
 use std::time::Instant;

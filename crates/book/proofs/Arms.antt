@@ -11,7 +11,8 @@ use types.Run.{OneOf}
 use borrow.Author.Tests.{ne-eqb, eqb-true, leb-true, ltb-true, lt-ltb, le-ltb, not-true}
 use Rattle.text.proofs.Picks.{by-test}
 use Rattle.text.specs.Bytes.{Text}
-use Rattle.strings.specs.Strings.{recordPath, leadRule, patternRule}
+use Rattle.path_rules.specs.Paths.{recordPath, leadRule}
+use Rattle.patterns.specs.Patterns.{patternRule}
 use Rattle.book.specs.Command.{begin, widths, widthOf}
 use Rattle.book.specs.Rules.{openers, limits, ownRule}
 use Rattle.book.proofs.Table.{every, spare, past, at-each, at-keys, T-true}

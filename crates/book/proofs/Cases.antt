@@ -11,7 +11,9 @@ use Rattle.book.specs.declared.Cmd.{Cmd}
 use Rattle.book.specs.Answer.{Answer, refused, given}
 use Rattle.book.specs.Command as command
 use Rattle.book.specs.Command.{Decoded, decode}
-use Rattle.strings.specs.Strings.{stringRule, recordPath, leadRule, patternRule, askedPath}
+use Rattle.strings.specs.Strings.{stringRule}
+use Rattle.path_rules.specs.Paths.{recordPath, leadRule, askedPath}
+use Rattle.patterns.specs.Patterns.{patternRule}
 use Rattle.book.specs.Record.{Key, strings, single, listed, mapping, optionOf, flagOf, recordPathOf}
 use Rattle.book.specs.Book.{verdict}
 use Rattle.book.proofs.Written.{Line, alone, _says_, turns, option, raw, commands-of, text-of, times}
@@ -22,7 +24,8 @@ use Rattle.book.specs.Record.{only, firstOf, targetsOf, keysOf}
 use Rattle.book.specs.Rules.{textOf, slot, tally, inRange, opened, fresh, follows, inOrder, tooMany, ownRule, goodString, pathOf, keysOf as keysOf-in-Rules, clash, givenBefore, faultOf, fault}
 use Rattle.components.specs.Components.{onFirst, split, pieceOf, starts}
 use Rattle.path.specs.Path.{normal}
-use Rattle.strings.specs.Strings.{afterConfigDir, twoStars, patternText, covers}
+use Rattle.patterns.specs.Patterns.{afterConfigDir, twoStars, patternText}
+use Rattle.compare.specs.Compare.{covers}
 use Rattle.text.specs.Text.{prefixOf, sameText, someOf, eachOf}
 
 pub data Case : Type 0 where

@@ -10,8 +10,8 @@ use lib.Dec.{eqb}
 use borrow.Author.Tests.{eq-eqb, ne-eqb, eqb-true, eqb-false}
 use Rattle.text.specs.Bytes.{Text, slash}
 use Rattle.text.specs.Text.{prefixOf, sameText, someOf}
-use Rattle.strings.specs.Strings.{covers}
-use Rattle.strings.specs.Scan.{digestFrom}
+use Rattle.compare.specs.Compare.{covers}
+use Rattle.compare.specs.Compare.{digestFrom}
 use Rattle.text.proofs.Scans.{prefix-short, same-length}
 use Rattle.text.proofs.Picks.{by-test}
 use Rattle.book.specs.Command.{key}

@@ -24,7 +24,7 @@ use Rattle.book.specs.Book.{judge, next, finish}
 use Rattle.book.specs.Index.{upToEnd, beginsOf}
 use Rattle.text.specs.Text.{someOf}
 use Rattle.book.specs.State.{has, pushed, Agrees, Slotted, texts, Table, Marked, meets, number}
-use Rattle.strings.specs.Scan.{digestFrom}
+use Rattle.compare.specs.Compare.{digestFrom}
 use Rattle.book.specs.Checks.{Held, ClosedAs}
 use Rattle.book.specs.Steps.{stepAt}
 use Rattle.book.proofs.Steps.{decoded, decode-step, Moved, step-moves, step-ends, step-begins}

@@ -9,7 +9,10 @@ use Rattle.book.specs.declared.Cmd.{Cmd}
 use Rattle.text.specs.Bytes.{Text}
 use Rattle.text.specs.Text.{sameText, someOf}
 use Rattle.book.specs.Command.{begin, includeItem, excludeItem, extends, key, target, reference, flag, textOption}
-use Rattle.strings.specs.Strings.{stringRule, recordPath, leadRule, patternRule, covers}
+use Rattle.strings.specs.Strings.{stringRule}
+use Rattle.path_rules.specs.Paths.{recordPath, leadRule}
+use Rattle.patterns.specs.Patterns.{patternRule}
+use Rattle.compare.specs.Compare.{covers}
 
 -- What stands before a command: the records that are closed, and the commands of the open one, none if none is open. Newest first.
 pub record Before : Type 0 where

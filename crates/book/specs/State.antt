@@ -7,7 +7,7 @@ use lib.ListN.{length, getD, set, take, drop}
 use lib.Dec.{eqb}
 use mathlib.Core.Option.{Option, some, none}
 use Rattle.text.specs.Text.{sameText}
-use Rattle.strings.specs.Scan.{digestFrom}
+use Rattle.compare.specs.Compare.{digestFrom}
 use Rattle.book.specs.declared.Cmd.{Cmd}
 use Rattle.book.specs.Rules.{slot, inRange, tally, lastOp, clash}
 

@@ -1,10 +1,10 @@
 // The book: its commands, and what is wrong with one of them, given those before it.
-use strings::covers;
-use strings::digest;
-use strings::is_pattern_of;
-use strings::is_record_path_of;
+use compare::covers;
+use compare::digest;
+use patterns::is_pattern_of;
+use path_rules::is_record_path_of;
 use strings::is_string_of;
-use strings::obeys_lead;
+use path_rules::obeys_lead;
 use text::from;
 use text::upto;
 ghost use mathlib.Core.Path.{_≡_};
@@ -14,8 +14,9 @@ ghost use Prim.Native.Nat.{_+_, _*_, _<_, _≤_};
 ghost use lib.ListN.{length, getD, set, take, drop};
 ghost use lib.Dec.{eqb};
 ghost use Rattle.text.specs.Text.{someOf};
-ghost use Rattle.strings.specs.Strings.{recordPath, leadRule};
-ghost use Rattle.strings.specs.Scan.{tameText, digestFrom};
+ghost use Rattle.path_rules.specs.Paths.{recordPath, leadRule};
+ghost use Rattle.strings.specs.Scan.{tameText};
+ghost use Rattle.compare.specs.Compare.{digestFrom};
 ghost use Rattle.book.specs.Command.{begin, key, target, widthOf, word, operands};
 ghost use Rattle.book.specs.Rules.{slot, openers, limits, inOrder, tooMany, textOf, ownRule, goodString, faultOf};
 ghost use Rattle.book.specs.Steps.{stepAt};

@@ -19,7 +19,10 @@ use Rattle.join.specs.Join.{joint, pushOf, stepBy, stepOf, walkOf, normalizeWit
 use Rattle.keys.specs.Keys.{matchesAt, partAt, keyPart}
 use Rattle.path.specs.Path.{sameList, leftOf, isSome, samePath, under, leftPieces, stripPrefix, normal}
 use Rattle.questions.specs.Questions.{fit, asked as asked-in-Questions, build, listed as listed-in-Questions, candidatesOf, triesOf, ownerReply, owner, book}
-use Rattle.strings.specs.Strings.{stringRule, recordPath, leadRule, afterConfigDir, twoStars, patternText, patternRule, covers, askedPath}
+use Rattle.strings.specs.Strings.{stringRule}
+use Rattle.path_rules.specs.Paths.{recordPath, leadRule, askedPath}
+use Rattle.patterns.specs.Patterns.{afterConfigDir, twoStars, patternText, patternRule}
+use Rattle.compare.specs.Compare.{covers}
 use Rattle.text.specs.Text.{prefixOf, sameText, someOf, eachOf, findFrom, findLastFrom}
 use Rattle.tsconfig.specs.Build.{withoutSlashes, inConfigDir, substituted, adjusted, builtValue, built}
 use Rattle.tsconfig.specs.Claims.{allowed, outside, ends, implied, matched, included, excluded, namedFile, claims, isEmptyList, noReferences, solutionStyle, claimsOwnership, solution}

@@ -11,7 +11,7 @@ use book::push;
 use book::put_key;
 use book::slot_of;
 use book::word_at;
-use strings::digest;
+use compare::digest;
 use strings::is_tame;
 use text::from;
 ghost use mathlib.Core.Path.{_≡_};

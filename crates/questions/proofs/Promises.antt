@@ -19,7 +19,8 @@ use Rattle.book.specs.Rules.{Before, fault}
 use Rattle.book.specs.Book.{next, finish, judge, nothing, verdict}
 use Rattle.book.specs.Find.{find, locate}
 use Rattle.book.specs.Sound.{All, nil, cons}
-use Rattle.strings.specs.Strings.{askedPath, stringRule}
+use Rattle.path_rules.specs.Paths.{askedPath}
+use Rattle.strings.specs.Strings.{stringRule}
 use Rattle.tsconfig.specs.Parsed.{Parsed, parsed}
 use Rattle.tsconfig.specs.Claims.{claimsOwnership, solution}
 use Rattle.tsconfig.specs.Build.{Settings}

@@ -15,7 +15,8 @@ use Rattle.book.specs.Answer.{Answer, refused, given, _>>=_}
 use Rattle.book.specs.Book.{verdict}
 use Rattle.book.specs.declared.Cmd.{Cmd}
 use Rattle.book.specs.Find.{locate}
-use Rattle.strings.specs.Strings.{askedPath, stringRule}
+use Rattle.path_rules.specs.Paths.{askedPath}
+use Rattle.strings.specs.Strings.{stringRule}
 use Rattle.tsconfig.specs.Parsed.{Parsed, parsed}
 use Rattle.tsconfig_resolver.specs.Find.{pathsOf}
 use Rattle.tsconfig_resolver.specs.Project.{Project, Owner, loadRecord, loadFound, loadPath, ownerOf}

@@ -7,7 +7,8 @@ use lib.Dec.{ltb}
 use lib.ListN.{length, drop}
 use Rattle.text.specs.Bytes.{Text}
 use Rattle.book.specs.Answer.{Answer, refused, given, _>>=_}
-use Rattle.strings.specs.Strings.{askedPath, stringRule}
+use Rattle.path_rules.specs.Paths.{askedPath}
+use Rattle.strings.specs.Strings.{stringRule}
 use Rattle.book.specs.Book.{verdict}
 use Rattle.tsconfig.specs.Parsed.{Parsed, parsed}
 use Rattle.tsconfig.specs.Listing.{listing}

@@ -6,7 +6,8 @@ use Prim.Native.Nat.{ℕ}
 use lib.ListN.{length}
 use Rattle.text.specs.Bytes.{Text}
 use Rattle.emit.specs.Emit.{Holds}
-use Rattle.strings.specs.Strings.{askedPath, stringRule}
+use Rattle.path_rules.specs.Paths.{askedPath}
+use Rattle.strings.specs.Strings.{stringRule}
 use Rattle.book.specs.Answer.{refused, given, _>>=_}
 use Rattle.rows.specs.Rows.{Row, siteOf}
 use Rattle.tsconfig.specs.Parsed.{Parsed}

@@ -89,7 +89,7 @@ fn one_agrees(line: &[u8]) -> bool {
     if !agrees(s, ends::extension(s), part_before(l5, TAB)) {
         return false;
     }
-    if strings::is_normal(s) != is_yes(part_before(l6, TAB)) {
+    if normal::is_normal(s) != is_yes(part_before(l6, TAB)) {
         return false;
     }
     components::inside_node_modules(s) == is_yes(l7)

@@ -8,10 +8,10 @@ use native.Mathlib.Omega.{arith}
 use lib.ListN.{length, getD, drop, drop-of-length-le}
 use lib.Seq.{drop-cons}
 use lib.Dec.{eqb}
-use lib.Bits.{bitOr, bitAnd, bitXor, or-add-and, xor-add-and, and-le-l, and-le-r, or-zero-l, xor-self}
+use lib.Bits.{bitOr, bitAnd, bitXor, or-add-and, and-le-r, or-zero-l}
 use borrow.Author.Tests.{eq-eqb, ne-eqb, eqb-true, eqb-false}
 use Rattle.text.specs.Bytes.{Text, bytes}
-use Rattle.text.specs.Text.{prefixOf, someOf, eachOf}
+use Rattle.text.specs.Text.{someOf, eachOf}
 use Rattle.text.proofs.Picks.{by-test}
 use Rattle.strings.specs.Strings.{noneOf}
 use Rattle.strings.specs.Scan.{flag}
@@ -24,13 +24,6 @@ or-none a b =
     by-test (eqb a 0)
     (λ e. let z : a ≡ 0 = eqb-true a 0 e in rw (e, z, or-zero-l b))
     (λ e. let n : eqb (bitOr a b) 0 ≡ false = ne-eqb (bitOr a b) 0 (λ h. eqb-false a 0 e (omega (arith, h, or-add-and a b, and-le-r a b))) in rw (n, e))
-
--- an exclusive or is 0 where both are the same
-xor-none : (a b : ℕ) → eqb (bitXor a b) 0 ≡ eqb a b
-xor-none a b =
-    by-test (eqb a b)
-    (λ e. let z : a ≡ b = eqb-true a b e in rw (e, z, xor-self b))
-    (λ e. let n : eqb (bitXor a b) 0 ≡ false = ne-eqb (bitXor a b) 0 (λ h. eqb-false a b e (omega (arith, h, xor-add-and a b, and-le-l a b, and-le-r a b))) in rw (n, e))
 
 pub flag-none : (t : Bool) → eqb (flag t) 0 ≡ not t
 flag-none true = refl
@@ -62,22 +55,11 @@ module _ (P : ℕ → Bool) (s : Text) (i bad : ℕ) (inv : Gathered (each P s) 
   unfolding eachOf
   each-end h = gather-end (each P s) i bad inv (rw (drop-of-length-le s h))
 
--- A prefix
-
--- what is left of p begins what is left of q
-abbrev pub ahead : Text → Text → ℕ → Bool
-ahead p q i = prefixOf (drop i p) (drop i q)
-
-module _ (p q : Text) (i bad : ℕ) (inv : Gathered (ahead p q) i bad) where
-  pub ahead-step : i < length p → i < length q → Gathered (ahead p q) (i + 1) (bitOr bad (bitXor (getD q i 0) (getD p i 0)))
-  unfolding prefixOf
-  ahead-step h k =
-      gather-step (ahead p q) i bad _ inv
-      (rw (add-one, drop-cons p i 0 h, drop-cons q i 0 k, xor-none (getD q i 0) (getD p i 0)))
-
-  pub ahead-end : length p ≤ i → eqb bad 0 ≡ prefixOf p q
-  unfolding prefixOf
-  ahead-end h = gather-end (ahead p q) i bad inv (rw (drop-of-length-le p h))
+-- the same rule, said in two ways
+pub each-same : {A : Type 0} (P Q : A → Bool) (l : List A) → ((x : A) → P x ≡ Q x) → eachOf P l ≡ eachOf Q l
+unfolding eachOf
+each-same P Q [] h = refl
+each-same P Q (x ∷ l) h = rw (h x, each-same P Q l h)
 
 -- One of the bytes: f is the flag of the first, g is 0 where x is none of the others
 

@@ -1,26 +1,20 @@
--- The rules of the strings of a tame text, and the loop of the digest. Assumes nothing.
-use mathlib.Core.Path.{_≡_, refl, sym, _∙_}
+-- A tame text, and the rules of the strings of one. Assumes nothing.
+use mathlib.Core.Path.{_≡_, refl, sym}
 use mathlib.Core.List.{[], _∷_}
-use mathlib.Core.Bool.{Bool, true, false, _&&_, and-true, and-false, true≢false}
-use Prim.Native.Nat.{ℕ, zero, suc, _+_, _≤_, _<_}
-use native.Mathlib.Numerals.{add-one}
-use lib.Bits.{bitXor}
-use lib.ListN.{length, getD, take, drop, drop-of-length-le}
-use lib.Seq.{drop-cons}
-use lib.Dec.{eqb, leb}
+use mathlib.Core.Bool.{Bool, true, false, _&&_, and-true, true≢false}
+use Prim.Native.Nat.{ℕ, zero, suc}
+use lib.ListN.{length, take, drop}
+use lib.Dec.{leb}
 use Rattle.text.specs.Bytes.{Text, bytes}
-use Rattle.names.specs.Names.{configDir}
-use Rattle.text.specs.Text.{prefixOf, someOf, eachOf}
-use Rattle.text.proofs.Picks.{by-test}
-use Rattle.strings.specs.Strings.{noneOf, plainByte, stringRule, patternRule}
-use Rattle.strings.specs.Scan.{starsApart, tameText, digestFrom}
-use Rattle.strings.proofs.Rules.{pattern-stars, pattern-whole}
+use Rattle.text.specs.Text.{eachOf}
+use Rattle.strings.specs.Strings.{noneOf, plainByte, stringRule}
+use Rattle.strings.specs.Scan.{tameText}
 
 and-left : (a b : Bool) → (a && b) ≡ true → a ≡ true
 and-left true b e = refl
 and-left false b e = e
 
-and-right : (a b : Bool) → (a && b) ≡ true → b ≡ true
+pub and-right : (a b : Bool) → (a && b) ≡ true → b ≡ true
 and-right true b e = e
 and-right false b e = absurd (true≢false (sym e))
 
@@ -64,27 +58,3 @@ tame-on s r d e r₂ f = rw (← d, e) f
 pub tame-string : (s : Text) → tameText s ≡ true → leb (length s) 512 ≡ stringRule s
 unfolding stringRule
 tame-string s e = rw (tame-plain s e) (sym (and-true (leb (length s) 512)))
-
--- `${configDir}` has a brace
-config-none : (s : Text) → eachOf (noneOf (bytes "{}[]!")) s ≡ true → prefixOf configDir s ≡ false
-unfolding eachOf prefixOf someOf
-config-none [] e = refl
-config-none (x ∷ []) e = and-false (eqb x 0x24)
-config-none (x ∷ y ∷ s) e =
-    by-test (eqb y 0x7B)
-    (λ t.
-    let z : noneOf (bytes "{}[]!") y && eachOf (noneOf (bytes "{}[]!")) s ≡ true = and-right (noneOf (bytes "{}[]!") x) _ e in
-    let w : false ≡ true = rw t at z in
-    absurd (true≢false (sym w)))
-    (λ f. rw f (and-false (eqb x 0x24)))
-
-pub tame-pattern : (s : Text) → tameText s ≡ true → (r : Bool) → r ≡ starsApart s → r ≡ patternRule s
-tame-pattern s e r d = pattern-whole s (prefixOf configDir s) refl (config-none s (tame-bare s e)) r (pattern-stars s (eachOf (noneOf (bytes "{}[]!")) s) refl (tame-bare s e) r d)
-
-pub digest-step : (s : Text) (i mix v : ℕ) → i < length s → digestFrom mix (drop i s) ≡ v → digestFrom (bitXor mix (getD s i 0)) (drop (i + 1) s) ≡ v
-unfolding digestFrom
-digest-step s i mix v h e = rw add-one (sym (rw (drop-cons s i 0 h) refl) ∙ e)
-
-pub digest-end : (s : Text) (i mix v : ℕ) → length s ≤ i → digestFrom mix (drop i s) ≡ v → mix ≡ v
-unfolding digestFrom
-digest-end s i mix v h e = sym (rw (drop-of-length-le s h) refl) ∙ e

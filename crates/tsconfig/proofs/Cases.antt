@@ -28,7 +28,10 @@ use Rattle.glob.specs.Glob.{afterStars, afterStar, tokenAt, tokens, eat, after,
 use Rattle.join.specs.Join.{joint, pushOf, stepBy, stepOf, walkOf, normalizeWith}
 use Rattle.keys.specs.Keys.{matchesAt, partAt, keyPart}
 use Rattle.path.specs.Path.{sameList, leftOf, isSome, samePath, under, leftPieces, stripPrefix, normal}
-use Rattle.strings.specs.Strings.{stringRule, recordPath, leadRule, afterConfigDir, twoStars, patternText, patternRule, covers}
+use Rattle.strings.specs.Strings.{stringRule}
+use Rattle.path_rules.specs.Paths.{recordPath, leadRule}
+use Rattle.patterns.specs.Patterns.{afterConfigDir, twoStars, patternText, patternRule}
+use Rattle.compare.specs.Compare.{covers}
 use Rattle.text.specs.Text.{prefixOf, sameText, someOf, eachOf, findFrom, findLastFrom}
 use Rattle.tsconfig.specs.Build.{withoutSlashes, inConfigDir, substituted, adjusted, builtValue}
 use Rattle.tsconfig.specs.Claims.{allowed, outside, ends, implied, matched, included, excluded, namedFile, isEmptyList, noReferences, solutionStyle}

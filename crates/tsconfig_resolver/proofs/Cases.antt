@@ -26,7 +26,10 @@ use Rattle.ends.specs.Ends.{joined, ending, trimEnd, allButLast, withoutLast, p
 use Rattle.glob.specs.Glob.{afterStars, afterStar, tokenAt, tokens, eat, after, afterDirs, matchTokens, globOf}
 use Rattle.join.specs.Join.{joint, pushOf, stepBy, stepOf, walkOf, normalizeWith}
 use Rattle.path.specs.Path.{sameList, leftOf, isSome, samePath, under, normal}
-use Rattle.strings.specs.Strings.{stringRule, recordPath, leadRule, afterConfigDir, twoStars, patternText, patternRule, covers}
+use Rattle.strings.specs.Strings.{stringRule}
+use Rattle.path_rules.specs.Paths.{recordPath, leadRule}
+use Rattle.patterns.specs.Patterns.{afterConfigDir, twoStars, patternText, patternRule}
+use Rattle.compare.specs.Compare.{covers}
 use Rattle.text.specs.Text.{prefixOf, sameText, someOf, eachOf, findLastFrom}
 use Rattle.tsconfig.specs.Build.{withoutSlashes, inConfigDir, substituted, adjusted, builtValue, built}
 use Rattle.tsconfig.specs.Claims.{allowed, outside, ends, implied, matched, included, excluded, namedFile, claims, isEmptyList, noReferences, solutionStyle, claimsOwnership, solution}

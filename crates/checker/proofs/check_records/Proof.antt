@@ -1,7 +1,7 @@
 use mathlib.Core.Path.{ap, _∙_}
 use Prim.Native.Nat.{_-_}
 use lib.ListN.{length, length-drop}
-use Rattle.strings.specs.Scan.{digestFrom}
+use Rattle.compare.specs.Compare.{digestFrom}
 use Rattle.checker.proofs.Books.{Booked, booked-none, booked-end, booked-refused, booked-few, booked-less, booked-on, size-commands, size-text}
 use native.Mathlib.Omega.{arith}
 use borrow.Author.Needs.{needs}

@@ -6,7 +6,7 @@ use Rattle.questions.proofs.is_asked.Statement.{statement}
 use Rattle.questions.proofs.is_asked.Tie as tie
 use Rattle.questions.proofs.is_asked.Reads as reads
 use Rattle.questions.proofs.is_asked.Lts as lts
-use Rattle.strings.proofs.is_asked_path.Reads as is-asked-path-reads
+use Rattle.path_rules.proofs.is_asked_path.Reads as is-asked-path-reads
 use Rattle.strings.proofs.is_string.Reads as is-string-reads
 
 is-asked-path-requires : tie.Need-is-asked-path-requires

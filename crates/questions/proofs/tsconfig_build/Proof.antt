@@ -5,7 +5,8 @@ use borrow.Author.Tests.{not-true, not-false}
 use Rattle.records.specs.Items.{pathTable, foundNumber}
 use Rattle.records.proofs.Paths.{locate-within}
 use Rattle.book.specs.Find.{locate}
-use Rattle.strings.specs.Strings.{askedPath, stringRule}
+use Rattle.path_rules.specs.Paths.{askedPath}
+use Rattle.strings.specs.Strings.{stringRule}
 use Rattle.tsconfig.specs.Mapping.{candidates}
 use Rattle.rows.specs.Records.{recordsOf}
 use Rattle.rows.specs.Rows.{siteOf}
