@@ -7,8 +7,6 @@ use std::path::Path;
 use oxc_resolver::{ResolveOptions, ResolverGeneric, TsconfigDiscovery};
 use tsconfig_questions::ffi::{self, Numbers};
 
-use judge::book::Record;
-
 use crate::files::Texts;
 
 pub type Resolver = ResolverGeneric<Texts>;
@@ -19,7 +17,6 @@ pub struct Book {
     pub text: Vec<u8>,
     /// The path of each config.
     pub configs: Vec<String>,
-    records: Vec<Record>,
     files: Texts,
 }
 
@@ -37,20 +34,11 @@ impl Book {
         let tries: Vec<Line> = lines.iter().filter_map(Line::as_tries).collect();
         lines.extend(tries);
         let configs = records.iter().map(|record| record.path.clone()).collect();
-        Ok((Self { commands, text, configs, records, files }, lines))
+        Ok((Self { commands, text, configs, files }, lines))
     }
 
     /// A resolver that has answered nothing yet. The paths that are tried are tested as themselves alone.
     pub fn fresh(&self) -> Resolver {
-        Self::over(self.files.clone())
-    }
-
-    /// The same, with the JSON texts made for it, as they must be where a book is what there is.
-    pub fn fresh_from_book(&self) -> Resolver {
-        Self::over(Texts::of(&self.records))
-    }
-
-    fn over(files: Texts) -> Resolver {
         let options = ResolveOptions {
             tsconfig: Some(TsconfigDiscovery::Auto),
             node_path: false,
@@ -58,7 +46,7 @@ impl Book {
             main_files: vec![],
             ..ResolveOptions::default()
         };
-        Resolver::new_with_file_system(files, options)
+        Resolver::new_with_file_system(self.files.clone(), options)
     }
 }
 

@@ -49,10 +49,10 @@ fn micro(nanoseconds: f64) -> String {
 }
 
 fn cells(measured: &Measured) -> String {
-    let Measured { library, fresh, from_book, warm } = measured;
-    let (ratio, book_ratio, warm_ratio) = (fresh.over(library), from_book.over(library), warm.over(library));
+    let Measured { library, fresh, warm } = measured;
+    let ratio = fresh.over(library);
     format!(
-        "{} / {} | {} / {} | {:.1}, {:.1} ({:.1} to {:.1}) | {} / {} | {:.1}, {:.1} ({:.1} to {:.1}) | {} / {} | {:.3}",
+        "{} / {} | {} / {} | {:.1}, {:.1} ({:.1} to {:.1}) | {} / {}",
         micro(library.least()),
         micro(library.median()),
         micro(fresh.least()),
@@ -61,20 +61,15 @@ fn cells(measured: &Measured) -> String {
         ratio.median(),
         ratio.least(),
         ratio.most(),
-        micro(from_book.least()),
-        micro(from_book.median()),
-        from_book.least() / library.least(),
-        book_ratio.median(),
-        book_ratio.least(),
-        book_ratio.most(),
         micro(warm.least()),
-        micro(warm.median()),
-        warm_ratio.median()
+        micro(warm.median())
     )
 }
 
 fn whole(folder: &Path, rounds: usize) -> Result<(), String> {
-    println!("\n| book | configs | library's check, us | crate, every config loaded, us | ratio | a bare pass, us |\n|---|---|---|---|---|---|");
+    println!(
+        "\n| book | configs | library's check, us | crate, every config loaded, us | ratio | a bare pass, us |\n|---|---|---|---|---|---|"
+    );
     for name in BOOKS {
         let (book, _) = Book::open(folder, name)?;
         let [check, load, bare] = measure_whole(&book, rounds);
@@ -100,10 +95,10 @@ fn row(folder: &Path, name: &str, book: &Book, line: &Line, rounds: usize) -> Re
     Ok(format!("{}, {} | {}", library?, fresh?, cells(&measure(book, line, rounds))))
 }
 
-const HEAD: &str = "question | instructions: library, fresh | library, us | fresh, us | fresh / library | from the book, us | from the book / library | warm, us | warm / library |";
+const HEAD: &str = "question | instructions: library, fresh | library, us | fresh, us | fresh / library | warm, us |";
 
 fn books(folder: &Path, rounds: usize) -> Result<(), String> {
-    println!("| book | {HEAD}\n|---|---|---|---|---|---|---|---|---|---|");
+    println!("| book | {HEAD}\n|---|---|---|---|---|---|---|");
     for name in BOOKS {
         let (book, lines) = Book::open(folder, name)?;
         for line in &lines {
@@ -114,7 +109,7 @@ fn books(folder: &Path, rounds: usize) -> Result<(), String> {
 }
 
 fn growth(folder: &Path, rounds: usize) -> Result<(), String> {
-    println!("\n| records | {HEAD}\n|---|---|---|---|---|---|---|---|---|---|");
+    println!("\n| records | {HEAD}\n|---|---|---|---|---|---|---|");
     for count in GROWTH {
         let name = format!("records-{count}");
         let (book, lines) = Book::open(folder, &name)?;

@@ -65,8 +65,6 @@ pub struct Measured {
     pub library: Times,
     /// A resolver made for the question, and dropped after it.
     pub fresh: Times,
-    /// The same, with the JSON texts of the book's configs made first.
-    pub from_book: Times,
     /// A resolver that has answered the question before.
     pub warm: Times,
 }
@@ -105,15 +103,12 @@ pub fn measure(book: &Book, line: &Line, rounds: usize) -> Measured {
             fresh_answers(book, line);
         }),
         Way::new(|| {
-            crate_answers(&book.fresh_from_book(), line);
-        }),
-        Way::new(|| {
             crate_answers(&kept, line);
         }),
     ];
     for _ in 0..rounds {
         ways.iter_mut().for_each(Way::round);
     }
-    let [library, fresh, from_book, warm] = ways.map(|way| way.times);
-    Measured { library, fresh, from_book, warm }
+    let [library, fresh, warm] = ways.map(|way| way.times);
+    Measured { library, fresh, warm }
 }
