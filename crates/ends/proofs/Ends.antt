@@ -50,7 +50,7 @@ module _ (b : ℕ) (s : Text) where
       go (finds i p h g l) = let z : _≡_ {A = ℕ} 0 1 = cc in never (omega arith)
 
   module _ (i : ℕ) (e : At i ≡ findLast b s) where
-    last-at : (i < length s) × ((getD s i 0 ≡ b) × (lacks b (drop (suc i) s) ≡ true))
+    pub last-at : (i < length s) × ((getD s i 0 ≡ b) × (lacks b (drop (suc i) s) ≡ true))
     last-at = go (last-is b s Nothing 0)
       where
         go : LastIs b s Nothing 0 (findLast b s) → (i < length s) × ((getD s i 0 ≡ b) × (lacks b (drop (suc i) s) ≡ true))
@@ -114,11 +114,11 @@ unfolding lastOf
 last-snoc x [] p = refl
 last-snoc x (q ∷ ps) p = last-snoc q ps p
 
-data Cut (s : Text) (f : Found) : Type 0 where
+pub data Cut (s : Text) (f : Found) : Type 0 where
   whole : f ≡ Nothing → split s ≡ s ∷ [] → lastPiece s ≡ s → Cut s f
   parted : (i : ℕ) → f ≡ At i → i < length s → split s ≡ split (take i s) ++ (drop (suc i) s ∷ []) → lastPiece s ≡ drop (suc i) s → Cut s f
 
-cut : (s : Text) (f : Found) → f ≡ findLast slash s → Cut s f
+pub cut : (s : Text) (f : Found) → f ≡ findLast slash s → Cut s f
 unfolding lastPiece lastOf
 cut s Nothing e = let p = split-lacks s (last-lacks slash s e) in whole refl p (rw p)
 cut s (At i) e =

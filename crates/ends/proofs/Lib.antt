@@ -2,3 +2,4 @@
 pub mod Ends
 pub mod Names
 pub mod Parents
+pub mod Usual

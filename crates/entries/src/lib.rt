@@ -15,7 +15,7 @@ use text::upto;
 ghost use mathlib.Core.Path.{_≡_};
 ghost use mathlib.Core.List.{[], _∷_, map};
 ghost use mathlib.Core.Bool.{_||_};
-ghost use Prim.Native.Nat.{_≤_, _<_};
+ghost use Prim.Native.Nat.{_+_, _≤_, _<_};
 ghost use lib.Dec.{eqb};
 ghost use lib.ListN.{length, getD, take, drop};
 ghost use Rattle.text.specs.Bytes.{slash, dot};
@@ -41,6 +41,24 @@ pub enum Opening {
     Ready(usize),
 }
 
+// The record, of n, that a path read from a directory means, where the two are short: what is written to is small.
+fn find_short(
+    text: &[u8],
+    starts: &[usize],
+    lens: &[usize],
+    n: usize,
+    dir: &[u8],
+    s: &[u8],
+) -> Found
+    requires { ⌜ (n ≤ length (now starts)) × ((n ≤ length (now lens)) × (length (now dir) + length (now s) < 128)) ⌝ }
+    ensures { λ r. ⌜ foundNumber r ≡ locateOf (pathTable (now (text .entry)) (now (starts .entry)) (now (lens .entry)) n) (normalizeWith (now (dir .entry)) (now (s .entry))) ⌝ }
+{
+    let mut buffer = [0u8; 128];
+    let k = normalize_with(dir, s, &mut buffer);
+    let p = upto(&buffer, k);
+    locate(text, starts, lens, n, p)
+}
+
 // The record, of n, that a path read from a directory means.
 pub fn find_meant(
     text: &[u8],
@@ -53,6 +71,9 @@ pub fn find_meant(
     requires { ⌜ (n ≤ length (now starts)) × ((n ≤ length (now lens)) × ((length (now dir) ≤ 512) × (length (now s) ≤ 512))) ⌝ }
     ensures { λ r. ⌜ foundNumber r ≡ locateOf (pathTable (now (text .entry)) (now (starts .entry)) (now (lens .entry)) n) (normalizeWith (now (dir .entry)) (now (s .entry))) ⌝ }
 {
+    if dir.len() + s.len() < 128 {
+        return find_short(text, starts, lens, n, dir, s);
+    }
     let mut buffer = [0u8; 1100];
     let k = normalize_with(dir, s, &mut buffer);
     let p = upto(&buffer, k);

@@ -7,16 +7,17 @@ use Prim.Native.Nat.{ℕ, zero, suc, _+_, _-_, _≤_, _<_}
 use native.Mathlib.Omega.{arith}
 use native.Mathlib.Numerals.{add-one}
 use native.Mathlib.Nat.{add-zero}
-use lib.ListN.{length, getD, take, drop, length-append, drop-of-length-le}
-use lib.Seq.{drop-cons}
-use lib.Dec.{eqb}
-use borrow.Author.Tests.{eq-eqb, ne-eqb, eqb-true, eqb-false}
+use lib.ListN.{length, getD, take, drop, length-append, length-take, drop-of-length-le}
+use lib.Seq.{drop-cons, getD-take, getD-drop}
+use lib.Dec.{eqb, leb}
+use borrow.Author.Count.{below-more}
+use borrow.Author.Tests.{eq-eqb, ne-eqb, eqb-true, eqb-false, leb-true, leb-false}
 use Rattle.text.specs.Bytes.{Text, slash}
 use Rattle.names.specs.Names.{tsconfigJson, json}
 use Rattle.text.specs.Text.{prefixOf, sameText, someOf}
 use Rattle.text.specs.declared.Found.{Found}
 use Rattle.text.specs.declared.Found.the-variants.{At, Nothing}
-use Rattle.text.proofs.Scans.{same-length}
+use Rattle.text.proofs.Scans.{same-length, prefix-differs, prefix-short}
 use Rattle.components.specs.Components.{starts}
 use Rattle.path.specs.Path.{isSome}
 use Rattle.join.specs.Join.{joint, pushOf, slashIf}
@@ -25,6 +26,7 @@ use Rattle.book.specs.Record.{recordPathOf}
 use Rattle.book.specs.Index.{AcceptedAs}
 use Rattle.book.specs.Find.{find, isDir, configPath, locate}
 use Rattle.records.specs.Items.{rowsFrom, pathTable, foundNumber}
+use Rattle.records.specs.Looks.{isNothing, Passed}
 
 -- Comparing with p and then a tail
 
@@ -83,15 +85,25 @@ module _ (q tail : Text) (apart : Bool) where
         go (y ∷ q) h i e = rw (eq-eqb slash y (sym i)) e
 
 module _ (p t q : Text) where
-  pub joined-short : length q < length p → false ≡ sameText (p ++ t) q
-  joined-short h = sym (same-length (p ++ t) q (λ e. absurd (omega (arith, e, h, length-append p t))))
+  joined-short : length q < length p → sameText (p ++ t) q ≡ false
+  joined-short h = same-length (p ++ t) q (λ e. absurd (omega (arith, e, h, length-append p t)))
 
-  module _ (h : length p ≤ length q) (rest : Text) (d : rest ≡ drop (length p) q) (b : Bool) (e : b ≡ sameText t rest) where
-    pub joined-other : b ≡ false → false ≡ sameText (p ++ t) q
-    joined-other f = sym (same-joined p t q h ∙ ap (λ (x : Bool). prefixOf p q && x) (ap (sameText t) (sym d) ∙ sym e ∙ f) ∙ and-false (prefixOf p q))
+  pub differs-short : length q < length p → false ≡ sameText (p ++ t) q
+  differs-short h = sym (joined-short h)
 
-    pub joined-same : b ≡ true → (r : Bool) → r ≡ prefixOf p q → r ≡ sameText (p ++ t) q
-    joined-same y r i = i ∙ sym (same-joined p t q h ∙ ap (λ (x : Bool). prefixOf p q && x) (ap (sameText t) (sym d) ∙ sym e ∙ y) ∙ and-true (prefixOf p q))
+  joined-other : prefixOf p q ≡ false → sameText (p ++ t) q ≡ false
+  joined-other f =
+      by-test (leb (length p) (length q))
+      (λ h. same-joined p t q (leb-true (length p) (length q) h) ∙ ap (λ (x : Bool). x && sameText t (drop (length p) q)) f)
+      (λ h. joined-short (leb-false (length p) (length q) h))
+
+  module _ (o : Found) (e : isNothing o ≡ prefixOf p q) where
+    pub differs-at : (i : ℕ) → o ≡ At i → false ≡ sameText (p ++ t) q
+    differs-at i f = sym (joined-other (sym e ∙ ap isNothing f))
+
+    pub differs-tail : o ≡ Nothing → length p ≤ length q → (rest : Text) → rest ≡ drop (length p) q → (b : Bool) → b ≡ sameText t rest → b ≡ sameText (p ++ t) q
+    differs-tail f h rest d b i =
+        i ∙ ap (sameText t) d ∙ ap (λ (x : Bool). x && sameText t (drop (length p) q)) (sym (ap isNothing f) ∙ e) ∙ sym (same-joined p t q h)
 
 -- a path that begins with p, and then with a slash
 
@@ -115,6 +127,27 @@ module _ (q p : Text) (apart b : Bool) (e : b ≡ prefixOf p q) where
       pub inside-slash : length p < length q → (r : Bool) → r ≡ eqb (getD q (length p) 0) slash → r ≡ prefixOf (p ++ (slashIf apart ++ [])) q
       unfolding prefixOf
       inside-slash h r i = i ∙ (rw (a, drop-cons q (length p) 0 h) (sym (and-true (eqb (getD q (length p) 0) slash)))) ∙ left
+
+-- A row whose byte k is another than that of p
+
+module _ (text p : Text) (starts : List ℕ) (n i : ℕ) where
+  pub passed-none : i ≤ n → Passed text starts n p i i
+  passed-none h = record { onward = omega arith; within = h; other = λ j h l len. absurd (omega (arith, h, l)) }
+
+  module _ (k : ℕ) (h : k < length p) where
+    begins-other : (start : ℕ) → (getD text (start + k) 0 ≡ getD p k 0 → ⊥) → (len : ℕ) → prefixOf p (take len (drop start text)) ≡ false
+    begins-other start d len =
+        by-test (leb len k)
+        (λ t. sym (prefix-short p (take len (drop start text)) (omega (arith, leb-true len k t, length-take len (drop start text)))))
+        (λ f. prefix-differs p (take len (drop start text)) k h (λ e. d (sym (getD-take len (drop start text) k 0 (leb-false len k f) ∙ getD-drop start text k 0) ∙ e)))
+
+    pub passed-on : (j : ℕ) → Passed text starts n p i j → j < n → (getD text (getD starts j 0 + k) 0 ≡ getD p k 0 → ⊥) → Passed text starts n p i (j + 1)
+    passed-on j a l d =
+        record {
+          onward = omega (arith, a .onward);
+          within = omega (arith, l);
+          other = below-more (λ m. i ≤ m → (len : ℕ) → prefixOf p (take len (drop (getD starts m 0) text)) ≡ false) j (a .other) (λ m. begins-other (getD starts j 0) d);
+        }
 
 -- The first of the table's rows
 
@@ -152,29 +185,53 @@ module _ (text : Text) (starts lens : List ℕ) (n : ℕ) where
         let z : n - i ≡ suc (n - (i + 1)) = omega arith in
         ap (rowsFrom text starts lens i) z ∙ ap₂ (λ (x : Text) (j : ℕ). x ∷ rowsFrom text starts lens j (n - (i + 1))) (sym e) (sym (add-one i))
 
-    module _ (w : Text) (b : Bool) (t : b ≡ sameText w q) (all : find w (pathTable text starts lens n) ≡ findFrom i w (rest i)) where
-      pub find-here : b ≡ true → some i ≡ find w (pathTable text starts lens n)
-      unfolding findFrom
-      find-here y = sym (all ∙ ap (findFrom i w) rest-row ∙ rw (← t, y) refl)
+  -- rows that do not begin with p are passed over by a search that skips each of them
+  module _ {X : Type 0} (f : ℕ → List Text → X) (p : Text) (skips : (i : ℕ) (q : Text) (qs : List Text) → prefixOf p q ≡ false → f i (q ∷ qs) ≡ f (suc i) qs) where
+    past : (d i r : ℕ) → i + d ≡ r → Passed text starts n p i r → f i (rest i) ≡ f r (rest r)
+    past zero i r e a = let z : i ≡ r = omega arith in ap (λ (j : ℕ). f j (rest j)) z
+    past (suc d) i r e a =
+        ap (f i) (rest-row i (omega (arith, e, a .within)) (take (getD lens i 0) (drop (getD starts i 0) text)) refl)
+        ∙ skips i _ _ (a .other i (omega (arith, e)) (omega arith) (getD lens i 0))
+        ∙ ap (λ (j : ℕ). f j (rest (i + 1))) (sym (add-one i))
+        ∙ past d (i + 1) r (omega (arith, e)) (record { onward = omega (arith, e); within = a .within; other = λ j h l. a .other j h (omega (arith, l)) })
 
-      pub find-on : b ≡ false → find w (pathTable text starts lens n) ≡ findFrom (i + 1) w (rest (i + 1))
-      unfolding findFrom
-      find-on y = all ∙ ap (findFrom i w) rest-row ∙ rw (← t, y) (ap (λ (j : ℕ). findFrom j w (rest (i + 1))) (sym (add-one i)))
+    passed : (i r : ℕ) → Passed text starts n p i r → f i (rest i) ≡ f r (rest r)
+    passed i r a = past (r - i) i r (omega (arith, a .onward)) a
 
-    module _ (ok : Text → Bool) (b : Bool) (t : b ≡ ok q) (all : someOf ok (pathTable text starts lens n) ≡ someOf ok (rest i)) where
-      pub some-here : b ≡ true → true ≡ someOf ok (pathTable text starts lens n)
-      unfolding someOf
-      some-here y = sym (all ∙ ap (someOf ok) rest-row ∙ rw (← t, y) refl)
+  module _ (p t : Text) where
+    find-passed : (i r : ℕ) → Passed text starts n p i r → findFrom i (p ++ t) (rest i) ≡ findFrom r (p ++ t) (rest r)
+    unfolding findFrom
+    find-passed i r a = passed (λ (j : ℕ) (qs : List Text). findFrom j (p ++ t) qs) p (λ j q qs f. rw (joined-other p t q f) refl) i r a
 
-      pub some-on : b ≡ false → someOf ok (pathTable text starts lens n) ≡ someOf ok (rest (i + 1))
-      unfolding someOf
-      some-on y = all ∙ ap (someOf ok) rest-row ∙ rw (← t, y) refl
+    pub find-start : (r : ℕ) → Passed text starts n p 0 r → find (p ++ t) (pathTable text starts lens n) ≡ findFrom r (p ++ t) (rest r)
+    find-start r a = find-from (p ++ t) (pathTable text starts lens n) ∙ ap (findFrom 0 (p ++ t)) (sym rest-all) ∙ find-passed 0 r a
 
-  pub find-start : (w : Text) → find w (pathTable text starts lens n) ≡ findFrom 0 w (rest 0)
-  find-start w = find-from w (pathTable text starts lens n) ∙ ap (findFrom 0 w) (sym rest-all)
+    some-passed : (i r : ℕ) → Passed text starts n p i r → someOf (prefixOf (p ++ t)) (rest i) ≡ someOf (prefixOf (p ++ t)) (rest r)
+    unfolding someOf
+    some-passed i r a = passed (λ (j : ℕ) (qs : List Text). someOf (prefixOf (p ++ t)) qs) p (λ j q qs f. rw (prefix-joined p t q, f) refl) i r a
 
-  pub some-start : (ok : Text → Bool) → someOf ok (pathTable text starts lens n) ≡ someOf ok (rest 0)
-  some-start ok = ap (someOf ok) (sym rest-all)
+    pub some-start : (r : ℕ) → Passed text starts n p 0 r → someOf (prefixOf (p ++ t)) (pathTable text starts lens n) ≡ someOf (prefixOf (p ++ t)) (rest r)
+    some-start r a = ap (someOf (prefixOf (p ++ t))) (sym rest-all) ∙ some-passed 0 r a
+
+    module _ (i : ℕ) (h : i < n) (q : Text) (e : q ≡ take (getD lens i 0) (drop (getD starts i 0) text)) where
+      module _ (o : Found) (d : isNothing o ≡ sameText (p ++ t) q) (all : find (p ++ t) (pathTable text starts lens n) ≡ findFrom i (p ++ t) (rest i)) where
+        pub find-here : o ≡ Nothing → some i ≡ find (p ++ t) (pathTable text starts lens n)
+        unfolding findFrom
+        find-here y = sym (all ∙ ap (findFrom i (p ++ t)) (rest-row i h q e) ∙ rw (← d, y) refl)
+
+        pub find-on : (j : ℕ) → o ≡ At j → (r : ℕ) → Passed text starts n p (i + 1) r → find (p ++ t) (pathTable text starts lens n) ≡ findFrom r (p ++ t) (rest r)
+        unfolding findFrom
+        find-on j y r a =
+            all ∙ ap (findFrom i (p ++ t)) (rest-row i h q e) ∙ (rw (← d, y) (ap (λ (m : ℕ). findFrom m (p ++ t) (rest (i + 1))) (sym (add-one i)))) ∙ find-passed (i + 1) r a
+
+      module _ (b : Bool) (d : b ≡ prefixOf (p ++ t) q) (all : someOf (prefixOf (p ++ t)) (pathTable text starts lens n) ≡ someOf (prefixOf (p ++ t)) (rest i)) where
+        pub some-here : b ≡ true → true ≡ someOf (prefixOf (p ++ t)) (pathTable text starts lens n)
+        unfolding someOf
+        some-here y = sym (all ∙ ap (someOf (prefixOf (p ++ t))) (rest-row i h q e) ∙ rw (← d, y) refl)
+
+        pub some-on : b ≡ false → (r : ℕ) → Passed text starts n p (i + 1) r → someOf (prefixOf (p ++ t)) (pathTable text starts lens n) ≡ someOf (prefixOf (p ++ t)) (rest r)
+        unfolding someOf
+        some-on y r a = all ∙ ap (someOf (prefixOf (p ++ t))) (rest-row i h q e) ∙ (rw (← d, y) refl) ∙ some-passed (i + 1) r a
 
   pub find-none : (w : Text) (i : ℕ) → n ≤ i → find w (pathTable text starts lens n) ≡ findFrom i w (rest i) → none ≡ find w (pathTable text starts lens n)
   unfolding findFrom

@@ -25,6 +25,10 @@ ghost use Rattle.book.specs.Record.{is};
 ghost use Rattle.book.specs.Index.{recordAt};
 ghost use Rattle.book.specs.Find.{find, isDir, locate};
 ghost use Rattle.records.specs.Items.{itemOf, optionItem, targetItem, pathTable, foundNumber};
+ghost use Rattle.records.specs.Looks.{isNothing, Passed};
+
+// How far from the end of a path the byte before `.json` stands: most paths of records end so.
+const BEFORE_JSON: usize = 6;
 
 // A command that was looked for, and the offset after it.
 pub enum Item {
@@ -119,18 +123,65 @@ fn is_tail(q: &[u8], apart: bool, tail: &[u8]) -> bool
     same_text(tail, rest)
 }
 
-// Whether q is p and then the tail, after a slash where it is to stand apart. Texts of different length are not compared.
-fn is_joined(q: &[u8], p: &[u8], apart: bool, tail: &[u8]) -> bool
-    ensures { λ r. ⌜ r ≡ sameText (now (p .entry) ++ (slashIf apart ++ now (tail .entry))) (now (q .entry)) ⌝ }
+// Where q, from the end of p on down, first differs from p: nowhere where q begins with p.
+fn last_difference(q: &[u8], p: &[u8]) -> Found
+    requires { ⌜ length (now p) ≤ length (now q) ⌝ }
+    ensures { λ r. ⌜ isNothing r ≡ prefixOf (now (p .entry)) (now (q .entry)) ⌝ }
+{
+    let mut i = p.len();
+    while 0 < i {
+        i -= 1;
+        if q[i] != p[i] {
+            return Found::At(i);
+        }
+    }
+    Found::Nothing
+}
+
+// Nothing where q is p and then the tail, after a slash where it is to stand apart. Else the place where such texts are best told apart:
+// where q differs from p, or k where it does not.
+fn difference(q: &[u8], p: &[u8], apart: bool, tail: &[u8], k: usize) -> Found
+    ensures { λ r. ⌜ isNothing r ≡ sameText (now (p .entry) ++ (slashIf apart ++ now (tail .entry))) (now (q .entry)) ⌝ }
 {
     if q.len() < p.len() {
-        return false;
+        return Found::At(k);
+    }
+    match last_difference(q, p) {
+        Found::At(i) => return Found::At(i),
+        Found::Nothing => {}
     }
     let rest = from(q, p.len());
-    if !is_tail(rest, apart, tail) {
-        return false;
+    if is_tail(rest, apart, tail) {
+        return Found::Nothing;
     }
-    starts_with(q, p)
+    Found::At(k)
+}
+
+// The first row from i on, of n, that may begin with p. Only the byte k is looked at.
+fn next_like(text: &[u8], starts: &[usize], n: usize, i: usize, p: &[u8], k: usize) -> usize
+    requires { ⌜ (n ≤ length (now starts)) × (i ≤ n) ⌝ }
+    ensures { λ r. ⌜ Passed (now (text .entry)) (now (starts .entry)) n (now (p .entry)) i r ⌝ }
+{
+    if p.len() <= k {
+        return i;
+    }
+    if text.len() < k {
+        return i;
+    }
+    let x = p[k];
+    let end = text.len() - k;
+    let mut j = i;
+    while j < n {
+        let start = starts[j];
+        if end <= start {
+            return j;
+        }
+        if text[start + k] == x {
+            return j;
+        }
+        j += 1;
+    }
+    j
 }
 
 // Whether q begins with p, and then a slash where it is to stand apart.
@@ -150,7 +201,16 @@ fn is_inside(q: &[u8], p: &[u8], apart: bool) -> bool
     q[k] == SLASH
 }
 
-// The first of n records whose path is p and then the tail, after a slash where it is to stand apart.
+// A place so far before an end, or 0.
+fn back(end: usize, look: usize) -> usize {
+    if end < look {
+        return 0;
+    }
+    end - look
+}
+
+// The first of n records whose path is p and then the tail, after a slash where it is to stand apart. The rows are told apart by one
+// byte, first by the one that is so far before the end of p, then by one where the row before differed.
 fn find_joined(
     text: &[u8],
     starts: &[usize],
@@ -159,19 +219,24 @@ fn find_joined(
     p: &[u8],
     apart: bool,
     tail: &[u8],
+    look: usize,
 ) -> Found
     requires { ⌜ (n ≤ length (now starts)) × (n ≤ length (now lens)) ⌝ }
     ensures { λ r. ⌜ foundNumber r ≡ find (now (p .entry) ++ (slashIf apart ++ now (tail .entry))) (pathTable (now (text .entry)) (now (starts .entry)) (now (lens .entry)) n) ⌝ }
 {
-    let mut i = 0;
+    let mut k = back(p.len(), look);
+    let mut i = next_like(text, starts, n, 0, p, k);
     while i < n {
         let start = starts[i];
         let len = lens[i];
         let q = piece(text, start, len);
-        if is_joined(q, p, apart, tail) {
-            return Found::At(i);
+        match difference(q, p, apart, tail, k) {
+            Found::Nothing => return Found::At(i),
+            Found::At(j) => {
+                k = j;
+                i = next_like(text, starts, n, i + 1, p, k);
+            }
         }
-        i += 1;
     }
     Found::Nothing
 }
@@ -188,7 +253,8 @@ fn is_some_inside(
     requires { ⌜ (n ≤ length (now starts)) × (n ≤ length (now lens)) ⌝ }
     ensures { λ r. ⌜ r ≡ someOf (prefixOf (now (p .entry) ++ (slashIf apart ++ []))) (pathTable (now (text .entry)) (now (starts .entry)) (now (lens .entry)) n) ⌝ }
 {
-    let mut i = 0;
+    let k = back(p.len(), 1);
+    let mut i = next_like(text, starts, n, 0, p, k);
     while i < n {
         let start = starts[i];
         let len = lens[i];
@@ -196,7 +262,7 @@ fn is_some_inside(
         if is_inside(q, p, apart) {
             return true;
         }
-        i += 1;
+        i = next_like(text, starts, n, i + 1, p, k);
     }
     false
 }
@@ -206,7 +272,7 @@ pub fn find_record(text: &[u8], starts: &[usize], lens: &[usize], n: usize, p: &
     requires { ⌜ (n ≤ length (now starts)) × (n ≤ length (now lens)) ⌝ }
     ensures { λ r. ⌜ foundNumber r ≡ find (now (p .entry)) (pathTable (now (text .entry)) (now (starts .entry)) (now (lens .entry)) n) ⌝ }
 {
-    find_joined(text, starts, lens, n, p, false, b"")
+    find_joined(text, starts, lens, n, p, false, b"", BEFORE_JSON)
 }
 
 // Whether p is a directory: a proper ancestor of the path of one of n records.
@@ -227,7 +293,7 @@ pub fn config_in(text: &[u8], starts: &[usize], lens: &[usize], n: usize, d: &[u
     ensures { λ r. ⌜ foundNumber r ≡ find (pushOf (now (d .entry)) tsconfigJson) (pathTable (now (text .entry)) (now (starts .entry)) (now (lens .entry)) n) ⌝ }
 {
     let apart = wants_slash(d);
-    find_joined(text, starts, lens, n, d, apart, b"tsconfig.json")
+    find_joined(text, starts, lens, n, d, apart, b"tsconfig.json", 1)
 }
 
 // The record, of n, that an asked path means: itself, a directory's `tsconfig.json`, or the path with `.json`.
@@ -243,5 +309,5 @@ pub fn locate(text: &[u8], starts: &[usize], lens: &[usize], n: usize, p: &[u8])
     if is_dir(text, starts, lens, n, p) {
         return config_in(text, starts, lens, n, p);
     }
-    find_joined(text, starts, lens, n, p, false, b".json")
+    find_joined(text, starts, lens, n, p, false, b".json", 1)
 }

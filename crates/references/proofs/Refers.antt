@@ -10,7 +10,7 @@ use lib.Dec.{eqb}
 use lib.ListN.{length, getD, take, replicate, drop-of-length-le, length-replicate}
 use borrow.Author.Tests.{eq-eqb, ne-eqb, eqb-true, eqb-false}
 use Rattle.text.specs.Bytes.{Text}
-use Rattle.emit.specs.Emit.{Emits}
+use Rattle.emit.specs.Emit.{written}
 use Rattle.emit.proofs.Emits.{written-whole}
 use Rattle.rows.proofs.Lists.{row-length}
 use Rattle.text.specs.declared.Found.{Found}
@@ -347,7 +347,7 @@ module _ (commands text : Text) (begins starts lens : List ℕ) (n : ℕ) where
     }
 
 -- a row copied out of a table
-pub copied : (table : List ℕ) (c : ℕ) (row own new : List ℕ) (r : ℕ) → length row ≡ 28 → 28 * c + 28 ≤ length table → own ≡ rowAt table c → Emits own row 0 new r → new ≡ rowAt table c
-copied table c row own new r l h e p =
+pub copied : (table : List ℕ) (c : ℕ) (row own new : List ℕ) → length row ≡ 28 → 28 * c + 28 ≤ length table → own ≡ rowAt table c → new ≡ written row 0 own → new ≡ rowAt table c
+copied table c row own new l h e p =
     let k : length own ≡ 28 = ap length e ∙ row-length table c h in
-    p .text ∙ written-whole own row (omega (arith, k, l)) ∙ ap (own ++_) (drop-of-length-le row {i = length own} (omega (arith, k, l))) ∙ append-nil own ∙ e
+    p ∙ written-whole own row (omega (arith, k, l)) ∙ ap (own ++_) (drop-of-length-le row {i = length own} (omega (arith, k, l))) ∙ append-nil own ∙ e

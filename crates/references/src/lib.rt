@@ -2,7 +2,6 @@
 use book::REFERENCE;
 use book::piece;
 use book::string_of;
-use emit::put_text;
 use entries::EMPTY;
 use entries::Opening;
 use entries::find_meant;
@@ -185,7 +184,7 @@ fn copy_row(table: &[u8], c: usize, row: &mut [u8])
     ensures { λ r. ⌜ now (row .exit) ≡ rowAt (now (table .entry)) c ⌝ }
 {
     let own = piece(table, ROW * c, ROW);
-    put_text(row, 0, own);
+    store_row(row, 0, own);
 }
 
 // Loads the record c as the asked config: its extends, to its row, and its references, each to its row of their table.

@@ -3,14 +3,46 @@ use mathlib.Core.Path.{_≡_, refl, sym, ap, _∙_}
 use mathlib.Core.List.{List, [], _∷_, _++_, append-assoc}
 use Prim.Native.Nat.{ℕ, zero, suc, _+_, _*_, _-_, _≤_, _<_, min}
 use native.Mathlib.Omega.{arith}
+use native.Mathlib.Numerals.{add-one}
 use lib.Dec.{ltb}
 use lib.ListN.{length, getD, set, take, drop, length-take, length-drop}
-use lib.Seq.{getD-set-other, getD-take, getD-drop, ext-getD, take-at, drop-at, length-take-le}
+use lib.Seq.{getD-set-other, getD-take, getD-drop, ext-getD, take-at, take-all, take-suc, take-suc-set, drop-at, length-take-le}
 use borrow.Author.Tests.{ltb-true, ltb-false}
 use Rattle.emit.specs.Emit.{written}
-use Rattle.emit.proofs.Emits.{written-in, written-length}
+use Rattle.emit.proofs.Emits.{written-in, written-length, written-append}
 use Rattle.text.proofs.Picks.{by-test}
 use Rattle.rows.specs.Rows.{absent, rowAt}
+
+-- A row copied place by place: the first i are the same
+
+module _ (row own : List ℕ) (i : ℕ) (e : take i row ≡ take i own) where
+  pub copy-step : i < length row → i < length own → take (i + 1) (set row i (getD own i 0)) ≡ take (i + 1) own
+  copy-step h k = rw add-one (take-suc-set row i (getD own i 0) h ∙ ap (λ (l : List ℕ). l ++ (getD own i 0 ∷ [])) e ∙ sym (take-suc own i 0 k))
+
+  pub copy-end : length row ≡ 28 → length own ≡ 28 → 28 ≤ i → row ≡ own
+  copy-end h k l = sym (take-all i row (omega (arith, h, l))) ∙ e ∙ take-all i own (omega (arith, k, l))
+
+-- A row written place by place
+
+module _ (o own : List ℕ) (at : ℕ) where
+  pub store-start : o ≡ written o at (take 0 own)
+  unfolding written
+  store-start = refl
+
+  module _ (u : List ℕ) (i : ℕ) (e : u ≡ written o at (take i own)) where
+    pub store-step : i < length own → set u (at + i) (getD own i 0) ≡ written o at (take (i + 1) own)
+    unfolding written
+    store-step h =
+        let z : length (take i own) ≡ i = length-take-le i own (omega (arith, h)) in
+        ap (λ (l : List ℕ). set l (at + i) (getD own i 0)) e
+        ∙ ap (λ (n : ℕ). set (written o at (take i own)) (at + n) (getD own i 0)) (sym z)
+        ∙ written-append (take i own) o at (getD own i 0 ∷ [])
+        ∙ ap (written o at) (sym (ap (λ (n : ℕ). take n own) (add-one i) ∙ take-suc own i 0 h))
+
+    pub store-end : (row : List ℕ) → own ≡ take 28 row → length row ≡ 28 → 28 ≤ i → u ≡ written o at row
+    store-end row d h l =
+        let w : own ≡ row = d ∙ take-all 28 row (omega (arith, h)) in
+        e ∙ ap (written o at) (take-all i own (omega (arith, ap length w, h, l)) ∙ w)
 
 -- what is written changes no other place
 written-before : (xs o : List ℕ) (at j d : ℕ) → j < at → getD (written o at xs) j d ≡ getD o j d

@@ -6,7 +6,6 @@ use book::FLAG;
 use book::Step;
 use book::TEXT_OPTION;
 use book::piece;
-use emit::put_text;
 use text::Found;
 ghost use mathlib.Core.Path.{_≡_};
 ghost use Prim.Native.Nat.{_+_, _*_, _<_, _≤_};
@@ -165,10 +164,25 @@ fn pick_base(u: u8, v: u8, p: u8, x: u8, y: u8) -> u8
     y
 }
 
+// Row p of a table, as a value: what is written elsewhere does not reach it.
+pub fn row_of(table: &[u8], p: usize) -> [u8; 28]
+    requires { ⌜ 28 * p + 28 ≤ length (now table) ⌝ }
+    ensures { λ r. ⌜ r ≡ rowAt (now (table .entry)) p ⌝ }
+{
+    let own = piece(table, ROW * p, ROW);
+    let mut row = [ABSENT; 28];
+    let mut i = 0;
+    while i < ROW {
+        row[i] = own[i];
+        i += 1;
+    }
+    row
+}
+
 // Merges the fields' places of another row into the row, nearer first.
-fn merge_fields(row: &mut [u8], far: &[u8])
-    requires { ⌜ (length (now row) ≡ 28) × (length (now far) ≡ 28) ⌝ }
-    ensures { λ r. ⌜ now (row .exit) ≡ mergedTo 26 (now (row .entry)) (now (far .entry)) ⌝ }
+fn merge_fields(row: &mut [u8], far: [u8; 28])
+    requires { ⌜ length (now row) ≡ 28 ⌝ }
+    ensures { λ r. ⌜ now (row .exit) ≡ mergedTo 26 (now (row .entry)) far ⌝ }
 {
     let mut i = 0;
     while i < FIELDS {
@@ -182,7 +196,7 @@ pub fn merge_row(row: &mut [u8], table: &[u8], p: usize)
     requires { ⌜ (length (now row) ≡ 28) × (28 * p + 28 ≤ length (now table)) ⌝ }
     ensures { λ r. ⌜ now (row .exit) ≡ mergedRow (now (row .entry)) (rowAt (now (table .entry)) p) ⌝ }
 {
-    let far = piece(table, ROW * p, ROW);
+    let far = row_of(table, p);
     let base = pick_base(row[3], far[3], row[4], row[26], far[26]);
     merge_fields(row, far);
     row[26] = base;
@@ -193,7 +207,13 @@ pub fn store_row(table: &mut [u8], c: usize, row: &[u8])
     requires { ⌜ (length (now row) ≡ 28) × (28 * c + 28 ≤ length (now table)) ⌝ }
     ensures { λ r. ⌜ now (table .exit) ≡ written (now (table .entry)) (28 * c) (now (row .entry)) ⌝ }
 {
-    put_text(table, ROW * c, row);
+    let own = row_of(row, 0);
+    let at = ROW * c;
+    let mut i = 0;
+    while i < ROW {
+        table[at + i] = own[i];
+        i += 1;
+    }
 }
 
 // Where the record that stands at a place of the row begins in the commands.

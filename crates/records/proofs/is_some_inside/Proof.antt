@@ -9,15 +9,27 @@ use native.Mathlib.Omega.{arith}
 use borrow.Author.Needs.{needs}
 use Rattle.records.proofs.is_some_inside.Statement.{statement}
 use Rattle.records.proofs.is_some_inside.Tie as tie
+use Rattle.records.proofs.is_some_inside.Reads as reads
+use Rattle.records.proofs.is_some_inside.Lts as lts
+use Rattle.book.proofs.piece.Reads as piece-reads
+use Rattle.records.proofs.back.Reads as back-reads
+use Rattle.records.proofs.is_inside.Reads as is-inside-reads
+use Rattle.records.proofs.next_like.Reads as next-like-reads
 
 abbrev Inv-loop : tie.InvT-loop
-Inv-loop text starts lens n p apart i₀ i = (i ≤ n) × (someOf (prefixOf (p ++ (slashIf apart ++ []))) (pathTable text starts lens n) ≡ someOf (prefixOf (p ++ (slashIf apart ++ []))) (rest text starts lens n i))
+Inv-loop text starts lens n p apart k i₀ i = (i ≤ n) × (someOf (prefixOf (p ++ (slashIf apart ++ []))) (pathTable text starts lens n) ≡ someOf (prefixOf (p ++ (slashIf apart ++ []))) (rest text starts lens n i))
 
 abbrev μ-loop : tie.MeasureT-loop
-μ-loop text starts lens n p apart i₀ i = n - i
+μ-loop text starts lens n p apart k i₀ i = n - i
+
+back-requires : tie.Need-back-requires Inv-loop μ-loop
+back-requires c κs = search needs
+
+next-like-requires : tie.Need-next-like-requires Inv-loop μ-loop
+next-like-requires c κs = search needs
 
 loop-holds : tie.Need-loop-holds Inv-loop μ-loop
-loop-holds c = (omega arith, some-start _ _ _ _ _)
+loop-holds c = let a = c .before .before .before .before .before .before .args in (c .next-like .ensures .within, some-start _ _ _ _ (a .p .now) (slashIf (a .apart) ++ []) _ (c .next-like .ensures))
 
 mul-start : tie.Need-mul-start Inv-loop μ-loop
 mul-start c = omega arith
@@ -38,19 +50,22 @@ is-inside-requires : tie.Need-is-inside-requires Inv-loop μ-loop
 is-inside-requires c κs = search needs
 
 returns : tie.Need-returns Inv-loop μ-loop
-returns c = some-here _ _ _ _ _ (c .before .before .before .before .before .loop-test .taken) _ (c .before .before .piece .ensures) (prefixOf (c .before .before .before .before .before .before .before .before .before .before .before .args .p .now ++ (slashIf (c .before .before .before .before .before .before .before .before .before .before .before .args .apart) ++ []))) _ (c .before .is-inside .ensures) (c .before .before .before .before .before .before .loop .inv .1) (c .if1 .taken)
+returns c = let a = c .before .before .before .before .before .before .before .before .before .before .before .before .before .args in some-here _ _ _ _ (a .p .now) (slashIf (a .apart) ++ []) _ (c .before .before .before .before .before .loop-test .taken) _ (c .before .before .piece .ensures) _ (c .before .is-inside .ensures) (c .before .before .before .before .before .before .loop .inv .1) (c .if1 .taken)
 
-add-i : tie.Need-add-i Inv-loop μ-loop
-add-i c = omega arith
+add-next-like : tie.Need-add-next-like Inv-loop μ-loop
+add-next-like c = omega arith
+
+next-like-requires-2 : tie.Need-next-like-requires-2 Inv-loop μ-loop
+next-like-requires-2 c κs = search needs
 
 loop-less : tie.Need-loop-less Inv-loop μ-loop
-loop-less c = omega arith
+loop-less c = omega (arith, c .next-like2 .ensures .onward, c .next-like2 .ensures .within)
 
 loop-again : tie.Need-loop-again Inv-loop μ-loop
-loop-again c = (omega arith, some-on _ _ _ _ _ (c .before .before .before .before .before .loop-test .taken) _ (c .before .before .piece .ensures) (prefixOf (c .before .before .before .before .before .before .before .before .before .before .before .args .p .now ++ (slashIf (c .before .before .before .before .before .before .before .before .before .before .before .args .apart) ++ []))) _ (c .before .is-inside .ensures) (c .before .before .before .before .before .before .loop .inv .1) (c .if1 .left))
+loop-again c = let a = c .before .before .before .before .before .before .before .before .before .before .before .before .before .before .args in (c .next-like2 .ensures .within, some-on _ _ _ _ (a .p .now) (slashIf (a .apart) ++ []) _ (c .before .before .before .before .before .before .loop-test .taken) _ (c .before .before .before .piece .ensures) _ (c .before .before .is-inside .ensures) (c .before .before .before .before .before .before .before .loop .inv .1) (c .before .if1 .left) _ (c .next-like2 .ensures))
 
 returns-2 : tie.Need-returns-2 Inv-loop μ-loop
-returns-2 c = some-none _ _ _ _ (prefixOf (c .before .before .before .before .before .before .args .p .now ++ (slashIf (c .before .before .before .before .before .before .args .apart) ++ []))) _ (c .loop-test .left) (c .before .loop .inv .1)
+returns-2 c = let a = c .before .before .before .before .before .before .before .before .args in some-none _ _ _ _ (prefixOf (a .p .now ++ (slashIf (a .apart) ++ []))) _ (c .loop-test .left) (c .before .loop .inv .1)
 
 pub is-some-inside-spec : {M : Type 1} → statement M
 is-some-inside-spec =
@@ -58,6 +73,8 @@ is-some-inside-spec =
     (tie.spec
     Inv-loop
     μ-loop
+    back-requires
+    next-like-requires
     loop-holds
     mul-start
     shared-slice-read-start
@@ -66,7 +83,8 @@ is-some-inside-spec =
     piece-requires
     is-inside-requires
     returns
-    add-i
+    add-next-like
+    next-like-requires-2
     loop-less
     loop-again
     returns-2)

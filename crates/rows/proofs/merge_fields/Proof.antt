@@ -7,6 +7,9 @@ use native.Mathlib.Omega.{arith}
 use borrow.Author.Needs.{needs}
 use Rattle.rows.proofs.merge_fields.Statement.{statement}
 use Rattle.rows.proofs.merge_fields.Tie as tie
+use Rattle.rows.proofs.merge_fields.Reads as reads
+use Rattle.rows.proofs.merge_fields.Lts as lts
+use Rattle.rows.proofs.pick.Reads as pick-reads
 
 abbrev Inv-loop : tie.InvT-loop
 Inv-loop row₀ far i₀ row i = (i ≤ 26) × ((length row ≡ length row₀) × (row ≡ mergedTo i row₀ far))
@@ -20,8 +23,8 @@ loop-holds c = search (needs, merge-start)
 slice-read-pick : tie.Need-slice-read-pick Inv-loop μ-loop
 slice-read-pick c = search needs
 
-shared-slice-read-pick : tie.Need-shared-slice-read-pick Inv-loop μ-loop
-shared-slice-read-pick c = search needs
+array-read-pick : tie.Need-array-read-pick Inv-loop μ-loop
+array-read-pick c = search needs
 
 pick-requires : tie.Need-pick-requires Inv-loop μ-loop
 pick-requires c κs = search needs
@@ -36,7 +39,7 @@ loop-less : tie.Need-loop-less Inv-loop μ-loop
 loop-less c = search needs
 
 loop-again : tie.Need-loop-again Inv-loop μ-loop
-loop-again c = (search needs, (search needs, merge-step _ _ _ _ _ (c .before .before .before .before .loop .inv .1 .1) (omega arith) (omega arith) (c .pick .ensures)))
+loop-again c = (search needs, (search needs, merge-step _ _ _ _ _ (c .before .before .before .loop .inv .1 .1) (omega arith) (omega arith) (c .pick .ensures)))
 
 same-length : tie.Need-same-length Inv-loop μ-loop
 same-length c = search needs
@@ -52,7 +55,7 @@ merge-fields-spec =
     μ-loop
     loop-holds
     slice-read-pick
-    shared-slice-read-pick
+    array-read-pick
     pick-requires
     slice-write-row
     add-i
