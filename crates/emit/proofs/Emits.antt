@@ -1,13 +1,16 @@
 -- Laws of what is written to lent output. Assumes nothing.
-use mathlib.Core.Path.{_≡_, refl, sym, ap, _∙_}
+use mathlib.Core.Path.{_≡_, refl, sym, ap, subst, _∙_}
 use mathlib.Core.List.{[], _∷_, _++_}
-use Prim.Native.Nat.{ℕ, suc, _+_, _<_, _≤_}
+use Prim.Native.Nat.{ℕ, suc, _+_, _-_, _<_, _≤_}
 use native.Mathlib.Omega.{arith}
 use native.Mathlib.Nat.{add-zero, add-suc, suc-add}
 use native.Mathlib.Numerals.{add-one}
 use lib.ListN.{length, getD, set, drop, take, length-append, drop-of-length-le}
 use lib.Seq.{sets, sets-eq, length-sets, set-out, drop-cons, take-at, length-take-le}
+use lib.Dec.{leb}
+use borrow.Author.Tests.{leb-true, leb-false}
 use Rattle.text.specs.Bytes.{Text}
+use Rattle.text.proofs.Picks.{by-test}
 use Rattle.emit.specs.Emit.{written, Room, Emits, Holds}
 
 -- Two texts one after the other are one
@@ -99,17 +102,26 @@ module _ (all o₀ : Text) (at : ℕ) where
     unfolding written
     owes-end e = record { text = sym (p .text ∙ ap (written o k) e); next = omega (arith, p .next, ap length e) }
 
--- The bytes of a text, one after the other
+-- The bytes of a text, one after the other, as far as the output reaches
 
-module _ (s o₀ : Text) (at : ℕ) (o : Text) (k i : ℕ) (p : Owes s o₀ at (drop i s) o k) where
-  pub bytes-room : i < length s → Room at s → Room k (getD s i 0 ∷ [])
-  bytes-room h r = owes-room s o₀ at (drop i s) o k p (getD s i 0 ∷ []) (drop (suc i) s) (drop-cons s i 0 h) r
+module _ (s o₀ : Text) (at : ℕ) where
+  pub bytes-all : Owes s o₀ at (drop 0 s) o₀ (at + 0)
+  bytes-all = rw (add-zero at) (owes-all s o₀ at)
 
-  pub bytes-step : (u : Text) (r : ℕ) → i < length s → Emits (getD s i 0 ∷ []) o k u r → Owes s o₀ at (drop (i + 1) s) u r
-  bytes-step u r h q = rw add-one (owes-step s o₀ at (drop i s) o k p (getD s i 0 ∷ []) (drop (suc i) s) u r (drop-cons s i 0 h) q)
+  pub bytes-step : (o : Text) (i : ℕ) → i < length s → Owes s o₀ at (drop i s) o (at + i) → Owes s o₀ at (drop (i + 1) s) (set o (at + i) (getD s i 0)) (at + (i + 1))
+  bytes-step o i h p =
+      let k : at + i + 1 ≡ at + (i + 1) = omega arith in
+      subst (Owes s o₀ at (drop (i + 1) s) (set o (at + i) (getD s i 0))) k
+      (rw add-one (owes-step s o₀ at (drop i s) o (at + i) p (getD s i 0 ∷ []) (drop (suc i) s) _ _ (drop-cons s i 0 h) (put-in o (at + i) (getD s i 0))))
 
-  pub bytes-end : length s ≤ i → Emits s o₀ at o k
-  bytes-end h = owes-end s o₀ at (drop i s) o k p (drop-of-length-le s h)
+  module _ (o : Text) (i : ℕ) (p : Owes s o₀ at (drop i s) o (at + i)) (l : length o ≡ length o₀) where
+    -- nothing is left, or nothing of it reaches
+    pub bytes-end : i ≡ length s - (length s - (length o₀ - at)) → at < length o₀ → Emits s o₀ at o (at + length s)
+    unfolding written
+    bytes-end e h =
+        by-test (leb (length s) i)
+        (λ t. let z : drop i s ≡ [] = drop-of-length-le s (leb-true (length s) i t) in record { text = sym (p .text ∙ ap (written o (at + i)) z); next = refl })
+        (λ f. let z = leb-false (length s) i f in record { text = sym (p .text ∙ written-out (drop i s) o (at + i) (omega (arith, e, h, l, z))); next = refl })
 
 -- What a buffer holds after a write that fits
 

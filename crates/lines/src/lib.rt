@@ -11,9 +11,9 @@ use records::next_item;
 use records::next_target;
 use text::upto;
 use values::adjust;
-use values::build_place;
+use values::build_place_in;
 ghost use mathlib.Core.List.{map};
-ghost use Prim.Native.Nat.{_≤_};
+ghost use Prim.Native.Nat.{_+_, _≤_};
 ghost use lib.ListN.{length};
 ghost use Rattle.text.specs.Bytes.{bytes};
 ghost use Rattle.emit.specs.Emit.{Room, Emits};
@@ -28,6 +28,9 @@ ghost use Rattle.lines.specs.Lines.{ended, valued, builtPlace, builtStri
 const NEWLINE: u8 = b'\n';
 
 const EQUALS: u8 = b'=';
+
+// The length of a buffer that is long enough for most values.
+const SHORT: usize = 256;
 
 // Writes s and the end of its line.
 pub fn put_line(out: &mut [u8], at: usize, s: &[u8]) -> usize
@@ -56,26 +59,64 @@ pub fn put_row(out: &mut [u8], at: usize, name: &[u8], v: &[u8]) -> usize
     put_value(out, k, v)
 }
 
-// Writes a string, as built from the directory or from the base, as a line with the name.
+// Writes a string, as built in the buffer from the directory or from the base, as a line with the name.
+fn put_built_in(
+    out: &mut [u8],
+    at: usize,
+    name: &[u8],
+    dir: &[u8],
+    base: &[u8],
+    s: &[u8],
+    buffer: &mut [u8],
+) -> usize
+    requires { ⌜ Room at (row (now name) (adjusted (now dir) (now base) (now s))) × ((length (now dir) + 1 + length (now s) ≤ length (now buffer)) × (length (now base) + 1 + length (now s) ≤ length (now buffer))) ⌝ }
+    ensures { λ r. ⌜ Emits (row (now (name .entry)) (adjusted (now (dir .entry)) (now (base .entry)) (now (s .entry)))) (now (out .entry)) at (now (out .exit)) r ⌝ }
+{
+    let n = adjust(dir, base, s, buffer);
+    put_row(out, at, name, upto(buffer, n))
+}
+
+// Writes a string, as built from the directory or from the base, as a line with the name. Most need a short buffer only.
 pub fn put_built(out: &mut [u8], at: usize, name: &[u8], dir: &[u8], base: &[u8], s: &[u8]) -> usize
     requires { ⌜ Room at (row (now name) (adjusted (now dir) (now base) (now s))) × ((length (now dir) ≤ 512) × ((length (now base) ≤ 1600) × (length (now s) ≤ 512))) ⌝ }
     ensures { λ r. ⌜ Emits (row (now (name .entry)) (adjusted (now (dir .entry)) (now (base .entry)) (now (s .entry)))) (now (out .entry)) at (now (out .exit)) r ⌝ }
 {
+    if dir.len() + base.len() + s.len() < SHORT {
+        let mut short = [0u8; SHORT];
+        return put_built_in(out, at, name, dir, base, s, &mut short);
+    }
     let mut buffer = [0u8; 2200];
-    let n = adjust(dir, base, s, &mut buffer);
-    let v = upto(&buffer, n);
-    put_row(out, at, name, v)
+    put_built_in(out, at, name, dir, base, s, &mut buffer)
 }
 
-// Writes a string, as built from its record's own directory, as a line with the name.
+// Writes a string, as built in the buffer from its record's own directory, as a line with the name.
+fn put_placed_in(
+    out: &mut [u8],
+    at: usize,
+    name: &[u8],
+    dir: &[u8],
+    own: &[u8],
+    s: &[u8],
+    buffer: &mut [u8],
+) -> usize
+    requires { ⌜ Room at (row (now name) (builtPlace (now dir) (now own) (now s))) × ((length (now own) ≤ 512) × ((length (now s) ≤ 512) × (length (now dir) + length (now own) + length (now s) + 2 ≤ length (now buffer)))) ⌝ }
+    ensures { λ r. ⌜ Emits (row (now (name .entry)) (builtPlace (now (dir .entry)) (now (own .entry)) (now (s .entry)))) (now (out .entry)) at (now (out .exit)) r ⌝ }
+{
+    let n = build_place_in(dir, own, s, buffer);
+    put_row(out, at, name, upto(buffer, n))
+}
+
+// Writes a string, as built from its record's own directory, as a line with the name. Most need a short buffer only.
 pub fn put_placed(out: &mut [u8], at: usize, name: &[u8], dir: &[u8], own: &[u8], s: &[u8]) -> usize
     requires { ⌜ Room at (row (now name) (builtPlace (now dir) (now own) (now s))) × ((length (now dir) ≤ 512) × ((length (now own) ≤ 512) × (length (now s) ≤ 512))) ⌝ }
     ensures { λ r. ⌜ Emits (row (now (name .entry)) (builtPlace (now (dir .entry)) (now (own .entry)) (now (s .entry)))) (now (out .entry)) at (now (out .exit)) r ⌝ }
 {
+    if dir.len() + own.len() + s.len() < SHORT - 1 {
+        let mut short = [0u8; SHORT];
+        return put_placed_in(out, at, name, dir, own, s, &mut short);
+    }
     let mut buffer = [0u8; 1600];
-    let n = build_place(dir, own, s, &mut buffer);
-    let v = upto(&buffer, n);
-    put_row(out, at, name, v)
+    put_placed_in(out, at, name, dir, own, s, &mut buffer)
 }
 
 // Writes the record's items with the byte, a line each.

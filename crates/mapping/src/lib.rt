@@ -21,7 +21,7 @@ use values::adjust;
 ghost use mathlib.Core.Path.{_≡_};
 ghost use mathlib.Core.List.{[], _∷_, map};
 ghost use mathlib.Core.Option.{some, none};
-ghost use Prim.Native.Nat.{_^_, _≤_, _<_};
+ghost use Prim.Native.Nat.{_+_, _^_, _≤_, _<_};
 ghost use lib.ListN.{length};
 ghost use Rattle.emit.specs.Emit.{Room, Emits};
 ghost use Rattle.text.specs.Bytes.{dot};
@@ -42,6 +42,9 @@ ghost use Rattle.mapping.specs.Targets.{targetAs, targetsAs, EachShort, 
 const BASE_URL_PLACE: usize = 3;
 
 const PATHS_PLACE: usize = 4;
+
+// The length of a buffer that is long enough for most paths.
+const SHORT: usize = 256;
 
 // How many paths were written, and the place after them.
 pub struct Listed {
@@ -134,7 +137,29 @@ fn put_filled(out: &mut [u8], at: usize, t: &[u8], part: &[u8]) -> usize
     put_text(out, e, tail)
 }
 
-// Writes a target as it is built, its star filled where it is asked.
+// Writes a target as it is built in the buffer, its star filled where it is asked.
+fn put_target_in(
+    out: &mut [u8],
+    at: usize,
+    dir: &[u8],
+    base: &[u8],
+    t: &[u8],
+    fill: bool,
+    part: &[u8],
+    buf: &mut [u8],
+) -> usize
+    requires { ⌜ (Room at (laid (targetAs (now dir) (now base) fill (now part) (now t) ∷ [])) × (Short (now dir) (now base) (now part) × (length (now t) ≤ 512))) × ((length (now dir) + 1 + length (now t) ≤ length (now buf)) × (length (now base) + 1 + length (now t) ≤ length (now buf))) ⌝ }
+    ensures { λ r. ⌜ Emits (laid (targetAs (now (dir .entry)) (now (base .entry)) fill (now (part .entry)) (now (t .entry)) ∷ [])) (now (out .entry)) at (now (out .exit)) r ⌝ }
+{
+    let n = adjust(dir, base, t, buf);
+    let path = upto(buf, n);
+    if fill {
+        return put_filled(out, at, path, part);
+    }
+    put_path(out, at, path)
+}
+
+// Writes a target as it is built, its star filled where it is asked. Most need a short buffer only.
 fn put_target(
     out: &mut [u8],
     at: usize,
@@ -147,13 +172,12 @@ fn put_target(
     requires { ⌜ Room at (laid (targetAs (now dir) (now base) fill (now part) (now t) ∷ [])) × (Short (now dir) (now base) (now part) × (length (now t) ≤ 512)) ⌝ }
     ensures { λ r. ⌜ Emits (laid (targetAs (now (dir .entry)) (now (base .entry)) fill (now (part .entry)) (now (t .entry)) ∷ [])) (now (out .entry)) at (now (out .exit)) r ⌝ }
 {
-    let mut buf = [0u8; 2200];
-    let n = adjust(dir, base, t, &mut buf);
-    let path = upto(&buf, n);
-    if fill {
-        return put_filled(out, at, path, part);
+    if dir.len() + base.len() + t.len() < SHORT {
+        let mut short = [0u8; SHORT];
+        return put_target_in(out, at, dir, base, t, fill, part, &mut short);
     }
-    put_path(out, at, path)
+    let mut buf = [0u8; 2200];
+    put_target_in(out, at, dir, base, t, fill, part, &mut buf)
 }
 
 // Writes the targets that stand at the offset, each as it is built.
@@ -256,15 +280,26 @@ pub fn put_aliases(
     put_mapped(commands, text, rec, dir, base, spec, out, at)
 }
 
-// Writes the specifier as it is read from the base.
+// Writes the specifier as it is read from the base into the buffer.
+fn put_read_in(base: &[u8], spec: &[u8], buf: &mut [u8], out: &mut [u8], at: usize) -> usize
+    requires { ⌜ ((length (now base) ≤ 1600) × ((length (now spec) ≤ 1100) × (at < 2 ^ 62))) × (length (now base) + 1 + length (now spec) ≤ length (now buf)) ⌝ }
+    ensures { λ r. ⌜ Emits (laid (normalizeWith (now (base .entry)) (now (spec .entry)) ∷ [])) (now (out .entry)) at (now (out .exit)) r ⌝ }
+{
+    let n = normalize_with(base, spec, buf);
+    put_path(out, at, upto(buf, n))
+}
+
+// Writes the specifier as it is read from the base. Most need a short buffer only.
 pub fn put_read(base: &[u8], spec: &[u8], out: &mut [u8], at: usize) -> usize
     requires { ⌜ (length (now base) ≤ 1600) × ((length (now spec) ≤ 1100) × (at < 2 ^ 62)) ⌝ }
     ensures { λ r. ⌜ Emits (laid (normalizeWith (now (base .entry)) (now (spec .entry)) ∷ [])) (now (out .entry)) at (now (out .exit)) r ⌝ }
 {
+    if base.len() + spec.len() < SHORT {
+        let mut short = [0u8; SHORT];
+        return put_read_in(base, spec, &mut short, out, at);
+    }
     let mut buf = [0u8; 2800];
-    let n = normalize_with(base, spec, &mut buf);
-    let path = upto(&buf, n);
-    put_path(out, at, path)
+    put_read_in(base, spec, &mut buf, out, at)
 }
 
 // Writes the candidates of the row's config for the specifier: what the mapping gives, and where it gives none and baseUrl is named, the specifier

@@ -3,14 +3,15 @@ use mathlib.Core.Path.{_≡_, refl, sym, ap, ap₂, subst, _∙_}
 use mathlib.Core.List.{List, [], _∷_, _++_, map}
 use mathlib.Core.Bool.{Bool, true, false, true≢false, _&&_, cond}
 use mathlib.Core.Option.{Option, some, none}
-use Prim.Native.Nat.{ℕ, _+_, _≤_, _<_}
+use Prim.Native.Nat.{ℕ, _+_, _^_, _≤_, _<_}
 use native.Mathlib.Omega.{arith}
 use lib.ListN.{length, take, drop, length-take}
+use lib.Seq.{length-take-le}
 use lib.Dec.{ltb, leb}
 use borrow.Author.Tests.{lt-ltb, le-ltb, leb-true}
 use Rattle.text.specs.Bytes.{Text}
-use Rattle.emit.specs.Emit.{written, Emits, Holds}
-use Rattle.emit.proofs.Emits.{written-whole}
+use Rattle.emit.specs.Emit.{written, Room, Emits, Holds}
+use Rattle.emit.proofs.Emits.{written-whole, emits-length, emits-holds}
 use Rattle.book.specs.Answer.{Answer, refused, given, _>>=_}
 use Rattle.book.specs.Book.{verdict}
 use Rattle.book.specs.declared.Cmd.{Cmd}
@@ -56,7 +57,19 @@ pub told-refused : (o : Outcome) (r : Numbers) (old new : Text) (k p : ℕ) → 
 unfolding output
 told-refused o r old new k p e n u = record { numbers = n ∙ sym (ap returned e); bytes = u ∙ sym (ap (λ (x : Outcome). output x old) e) }
 
--- A reply that fits, or not: counted over nothing, then written
+-- What the scratch holds of a text, where it is long enough, is the text
+
+pub part-room : (k : ℕ) (scratch : Text) → k ≤ length scratch → k < 2 ^ 63 → Room 0 (take k scratch)
+part-room k scratch h s = record { room = omega (arith, s, length-take-le k scratch h) }
+
+module _ (x in-scratch scratch : Text) (k : ℕ) (made : Emits x in-scratch 0 scratch k) (h : k ≤ length scratch) where
+  pub scratch-holds : take k scratch ≡ x
+  scratch-holds = emits-holds x in-scratch scratch 0 k (omega (arith, h, made .next, emits-length x in-scratch 0 scratch k made)) made .bytes
+
+  pub scratch-copied : (old new : Text) (n : ℕ) → Emits (take k scratch) old 0 new n → Emits x old 0 new n
+  scratch-copied old new n p = subst (λ (t : Text). Emits t old 0 new n) scratch-holds p
+
+-- A reply that fits, or not: counted first, then written
 
 module _ (reply : Reply) (old : Text) (k : ℕ) (none-in none-out : Text) (counted : Emits (reply .bytes) none-in 0 none-out k) where
   counts : k ≡ length (reply .bytes)
@@ -71,12 +84,12 @@ module _ (reply : Reply) (old : Text) (k : ℕ) (none-in none-out : Text) (count
     unfolding fit
     fit-given = rw (le-ltb (length old) (length (reply .bytes)) (omega (arith, h, counts))) refl
 
-    pub told-given : (r : Numbers) → r .number ≡ 0 → r .place ≡ 0 → r .first ≡ reply .first → r .second ≡ reply .second → r .bytes ≡ n → Told (fit (length old) reply) r old new
+    pub told-given : (r : Numbers) (first second : ℕ) → numbersOf r ≡ 0 ∷ 0 ∷ first ∷ second ∷ n ∷ [] → first ≡ reply .first → second ≡ reply .second → Told (fit (length old) reply) r old new
     unfolding returned output
-    told-given r a b c d e =
+    told-given r first second e a b =
         let z : n ≡ length (reply .bytes) = omega (arith, wrote .next) in
         record {
-          numbers = rw (a, b, c, d, e, z, fit-given) refl;
+          numbers = e ∙ rw (a, b, z, fit-given) refl;
           bytes = wrote .text ∙ written-whole (reply .bytes) old (omega (arith, h, counts)) ∙ sym (ap (λ (x : Outcome). output x old) fit-given);
         }
 

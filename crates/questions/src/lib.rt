@@ -1,6 +1,7 @@
 // The questions, as C functions on numbers and byte slices.
 use book::Judged;
 use checker::check_tables;
+use emit::put_text;
 use listing::put_listing;
 use mapping::Listed;
 use mapping::put_candidates;
@@ -67,7 +68,21 @@ fn give(first: usize, second: usize) -> Numbers
     }
 }
 
-// The listing of a row's config, where it fits the output. It is counted over an output of no room first.
+// An answer with its output.
+fn reply(first: usize, second: usize, bytes: usize) -> Numbers
+    ensures { λ r. ⌜ numbersOf r ≡ 0 ∷ 0 ∷ first ∷ second ∷ bytes ∷ [] ⌝ }
+{
+    Numbers {
+        number: 0,
+        place: 0,
+        first: first as u64,
+        second: second as u64,
+        bytes: bytes as u64,
+    }
+}
+
+// The listing of a row's config, where it fits the output. It is written to the scratch first, which counts it, and from there to the output; where
+// the scratch is too short it is written once more.
 fn write_listing(
     commands: &[u8],
     text: &[u8],
@@ -75,25 +90,23 @@ fn write_listing(
     row: &[u8],
     base: &[u8],
     merges: usize,
-    none: &mut [u8],
+    scratch: &mut [u8],
     out: &mut [u8],
 ) -> Numbers
-    requires { ⌜ (length (now none) ≡ 0) × (Records (now commands) (now text) (now begins) × (Row (recordsOf (now commands) (now text)) (now row) × ((now base ≡ (siteOf (recordsOf (now commands) (now text)) (now row)) .config .base) × (length (now base) ≤ 1600)))) ⌝ }
+    requires { ⌜ Records (now commands) (now text) (now begins) × (Row (recordsOf (now commands) (now text)) (now row) × ((now base ≡ (siteOf (recordsOf (now commands) (now text)) (now row)) .config .base) × (length (now base) ≤ 1600))) ⌝ }
     ensures { λ r. ⌜ Told (fit (length (now (out .entry))) (buildReply (recordsOf (now (commands .entry)) (now (text .entry))) (siteOf (recordsOf (now (commands .entry)) (now (text .entry))) (now (row .entry))) merges)) r (now (out .entry)) (now (out .exit)) ⌝ }
 {
-    let need = put_listing(commands, text, begins, row, base, none, 0);
+    let need = put_listing(commands, text, begins, row, base, scratch, 0);
     if out.len() < need {
         return refuse(13, need);
     }
     let number = site_number(row);
-    let bytes = put_listing(commands, text, begins, row, base, out, 0);
-    Numbers {
-        number: 0,
-        place: 0,
-        first: number as u64,
-        second: merges as u64,
-        bytes: bytes as u64,
+    if need <= scratch.len() {
+        let bytes = put_text(out, 0, &scratch[..need]);
+        return reply(number, merges, bytes);
     }
+    let bytes = put_listing(commands, text, begins, row, base, out, 0);
+    reply(number, merges, bytes)
 }
 
 // What is told of a record that is opened: a refusal's number and place, or the merges made and the length of its config's base.
@@ -157,8 +170,17 @@ fn build_record(
         Opening::Refused(k, p) => return refuse(k, p),
         Opening::Ready(merges, len) => {
             let built = upto(&base, len);
-            let mut none = [0u8; 0];
-            return write_listing(commands, text, begins, &row, built, merges, &mut none, out);
+            let mut scratch = [0u8; 4096];
+            return write_listing(
+                commands,
+                text,
+                begins,
+                &row,
+                built,
+                merges,
+                &mut scratch,
+                out,
+            );
         }
     }
 }
@@ -237,7 +259,7 @@ fn put_paths(
     put_candidates(commands, text, begins, row, base, specifier, out, at)
 }
 
-// The paths of a row's config, where they fit the output. They are counted over an output of no room first.
+// The paths of a row's config, where they fit the output. They are written to the scratch first, as a listing is.
 fn write_paths(
     tried: bool,
     commands: &[u8],
@@ -247,10 +269,10 @@ fn write_paths(
     base: &[u8],
     directory: &[u8],
     specifier: &[u8],
-    none: &mut [u8],
+    scratch: &mut [u8],
     out: &mut [u8],
 ) -> Numbers
-    requires { ⌜ (length (now none) ≡ 0) × (Asks (now commands) (now text) (now begins) (now row) (now base) (now specifier) 0 × (tried ≡ true → length (now directory) ≤ 512)) ⌝ }
+    requires { ⌜ Asks (now commands) (now text) (now begins) (now row) (now base) (now specifier) 0 × (tried ≡ true → length (now directory) ≤ 512) ⌝ }
     ensures { λ r. ⌜ Told (listed (length (now (out .entry))) (pathsBy tried (now (directory .entry)) (now (specifier .entry)) (configAt (now (commands .entry)) (now (text .entry)) (now (row .entry))))) r (now (out .entry)) (now (out .exit)) ⌝ }
 {
     let counted = put_paths(
@@ -262,12 +284,16 @@ fn write_paths(
         base,
         directory,
         specifier,
-        none,
+        scratch,
         0,
     );
     let need = counted.at;
     if out.len() < need {
         return refuse(13, need);
+    }
+    if need <= scratch.len() {
+        let bytes = put_text(out, 0, &scratch[..need]);
+        return reply(counted.count, 0, bytes);
     }
     let wrote = put_paths(
         tried,
@@ -281,15 +307,7 @@ fn write_paths(
         out,
         0,
     );
-    let count = wrote.count;
-    let bytes = wrote.at;
-    Numbers {
-        number: 0,
-        place: 0,
-        first: count as u64,
-        second: 0,
-        bytes: bytes as u64,
-    }
+    reply(wrote.count, 0, wrote.at)
 }
 
 // The paths of the record c.
@@ -325,7 +343,7 @@ fn paths_record(
         Opening::Refused(k, p) => return refuse(k, p),
         Opening::Ready(_, len) => {
             let built = upto(&base, len);
-            let mut none = [0u8; 0];
+            let mut scratch = [0u8; 1024];
             return write_paths(
                 tried,
                 commands,
@@ -335,7 +353,7 @@ fn paths_record(
                 built,
                 directory,
                 specifier,
-                &mut none,
+                &mut scratch,
                 out,
             );
         }

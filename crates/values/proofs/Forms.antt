@@ -5,7 +5,7 @@ use mathlib.Core.Bool.{Bool, true, false}
 use Prim.Native.Nat.{ℕ, suc, _+_, _*_, _^_, _≤_, _<_}
 use native.Mathlib.Omega.{arith}
 use native.Mathlib.Numerals.{add-one}
-use lib.ListN.{length, take, drop, getD, length-drop, drop-of-length-le}
+use lib.ListN.{length, take, drop, getD, length-drop, length-take, drop-of-length-le}
 use lib.Seq.{drop-cons}
 use lib.Dec.{eqb}
 use borrow.Author.Tests.{eq-eqb, ne-eqb}
@@ -108,8 +108,20 @@ module _ (own s b put : Text) (n : ℕ) (h : Holds n b (placed own s)) (e : put 
   put-text : put ≡ placed own s
   put-text = e ∙ h .bytes
 
-  pub put-fits : (dir o : Text) → length dir ≤ 512 → length own ≤ 512 → length s ≤ 512 → 1600 ≤ length o → length dir + 1 + length put ≤ length o
-  put-fits dir o x y z w = omega (arith, x, y, z, w, ap length put-text, placed-length own s)
+  pub put-fits : (dir o : Text) → length dir + length own + length s + 2 ≤ length o → length dir + 1 + length put ≤ length o
+  put-fits dir o w = omega (arith, w, ap length put-text, placed-length own s)
 
   pub put-holds : (dir u : Text) (r : ℕ) → Holds r u (substituted dir put) → Holds r u (substituted dir (placed own s))
   put-holds dir u r k = subst (λ t. Holds r u (substituted dir t)) put-text k
+
+-- Placed in the output, where it stays if no `${configDir}` leads
+
+module _ (own s u : Text) (n : ℕ) (h : Holds n u (placed own s)) where
+  pub placed-within : n ≤ length u
+  placed-within = omega (arith, h .size, ap length (h .bytes), length-take n u)
+
+  pub placed-kept : (k : Bool) → k ≡ prefixOf configDir (take n u) → (dir : Text) → k ≡ false → Holds n u (substituted dir (placed own s))
+  unfolding substituted
+  placed-kept k e dir f =
+      let z : prefixOf configDir (placed own s) ≡ false = ap (prefixOf configDir) (sym (h .bytes)) ∙ sym e ∙ f in
+      rw z h

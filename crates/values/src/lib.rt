@@ -84,15 +84,36 @@ pub fn place(dir: &[u8], s: &[u8], out: &mut [u8]) -> usize
     normalize_with(dir, s, out)
 }
 
-// s read from a record's own directory, and a leading `${configDir}` of that replaced by the built config's.
-pub fn build_place(dir: &[u8], own: &[u8], s: &[u8], out: &mut [u8]) -> usize
-    requires { ⌜ (length (now dir) ≤ 512) × ((length (now own) ≤ 512) × ((length (now s) ≤ 512) × (1600 ≤ length (now out)))) ⌝ }
+// s read from a record's own directory into a buffer, and a leading `${configDir}` of that replaced by the built config's.
+fn substitute_placed(dir: &[u8], own: &[u8], s: &[u8], out: &mut [u8]) -> usize
+    requires { ⌜ (length (now own) ≤ 512) × ((length (now s) ≤ 512) × (length (now dir) + length (now own) + length (now s) + 2 ≤ length (now out))) ⌝ }
     ensures { λ r. ⌜ Holds r (now (out .exit)) (substituted (now (dir .entry)) (placed (now (own .entry)) (now (s .entry)))) ⌝ }
 {
     let mut buf = [0u8; 1100];
     let n = place(own, s, &mut buf);
     let put = upto(&buf, n);
     substitute(dir, put, out)
+}
+
+// The same, with no buffer where no `${configDir}` leads.
+pub fn build_place_in(dir: &[u8], own: &[u8], s: &[u8], out: &mut [u8]) -> usize
+    requires { ⌜ (length (now own) ≤ 512) × ((length (now s) ≤ 512) × (length (now dir) + length (now own) + length (now s) + 2 ≤ length (now out))) ⌝ }
+    ensures { λ r. ⌜ Holds r (now (out .exit)) (substituted (now (dir .entry)) (placed (now (own .entry)) (now (s .entry)))) ⌝ }
+{
+    let n = place(own, s, out);
+    let led = has_config_dir(&out[..n]);
+    if led {
+        return substitute_placed(dir, own, s, out);
+    }
+    n
+}
+
+// s read from a record's own directory, and a leading `${configDir}` of that replaced by the built config's.
+pub fn build_place(dir: &[u8], own: &[u8], s: &[u8], out: &mut [u8]) -> usize
+    requires { ⌜ (length (now dir) ≤ 512) × ((length (now own) ≤ 512) × ((length (now s) ≤ 512) × (1600 ≤ length (now out)))) ⌝ }
+    ensures { λ r. ⌜ Holds r (now (out .exit)) (substituted (now (dir .entry)) (placed (now (own .entry)) (now (s .entry)))) ⌝ }
+{
+    build_place_in(dir, own, s, out)
 }
 
 // The path of the record that stands at the offset.

@@ -59,7 +59,7 @@ slice-aggregate-write-listing-2 : tie.Need-slice-aggregate-write-listing-2
 slice-aggregate-write-listing-2 c = search needs
 
 write-listing-requires : tie.Need-write-listing-requires
-write-listing-requires c κs = let a = c .before .before .before .before .before .before .before .before .before .before .before .before .before .before .before .before .before .before .before .args in let y = ready (recordsOf (a .commands .now) (a .text .now)) _ _ _ _ (c .before .before .before .before .before .before .before .before .before .before .open-site .ensures) _ _ (c .before .before .before .before .before .before .merges .given .1) in (search needs, (c .before .before .before .before .before .before .before .before .before .before .before .before .before .before .before .before .before .before .before .pre .0, (y .row-is, (base-same _ _ _ (y .base-is) _ (c .before .before .before .upto .ensures), base-short _ _ _ (y .base-is) _ (c .before .before .before .upto .ensures) (search needs)))))
+write-listing-requires c κs = let a = c .before .before .before .before .before .before .before .before .before .before .before .before .before .before .before .before .before .before .before .args in let y = ready (recordsOf (a .commands .now) (a .text .now)) _ _ _ _ (c .before .before .before .before .before .before .before .before .before .before .open-site .ensures) _ _ (c .before .before .before .before .before .before .merges .given .1) in (c .before .before .before .before .before .before .before .before .before .before .before .before .before .before .before .before .before .before .before .pre .0, (y .row-is, (base-same _ _ _ (y .base-is) _ (c .before .before .before .upto .ensures), base-short _ _ _ (y .base-is) _ (c .before .before .before .upto .ensures) (search needs))))
 
 same-length : tie.Need-same-length
 same-length c = search needs

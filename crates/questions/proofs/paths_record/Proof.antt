@@ -47,7 +47,7 @@ slice-aggregate-write-paths-2 : tie.Need-slice-aggregate-write-paths-2
 slice-aggregate-write-paths-2 c = search needs
 
 write-paths-requires : tie.Need-write-paths-requires
-write-paths-requires c κs = let y = ready (recordsOf (c .before .before .before .before .before .before .before .before .before .before .before .before .before .before .before .before .before .before .before .before .before .args .commands .now) (c .before .before .before .before .before .before .before .before .before .before .before .before .before .before .before .before .before .before .before .before .before .args .text .now)) _ _ _ _ (c .before .before .before .before .before .before .before .before .before .before .open-site .ensures) _ _ (c .before .before .before .before .before .before .len .given .1) in (search needs, (((c .before .before .before .before .before .before .before .before .before .before .before .before .before .before .before .before .before .before .before .before .before .pre .0 .0, (y .row-is, base-same _ _ _ (y .base-is) _ (c .before .before .before .upto .ensures))), (base-short _ _ _ (y .base-is) _ (c .before .before .before .upto .ensures) (search needs), (c .before .before .before .before .before .before .before .before .before .before .before .before .before .before .before .before .before .before .before .before .before .pre .1 .0, omega arith))), c .before .before .before .before .before .before .before .before .before .before .before .before .before .before .before .before .before .before .before .before .before .pre .1 .1))
+write-paths-requires c κs = let y = ready (recordsOf (c .before .before .before .before .before .before .before .before .before .before .before .before .before .before .before .before .before .before .before .before .before .args .commands .now) (c .before .before .before .before .before .before .before .before .before .before .before .before .before .before .before .before .before .before .before .before .before .args .text .now)) _ _ _ _ (c .before .before .before .before .before .before .before .before .before .before .open-site .ensures) _ _ (c .before .before .before .before .before .before .len .given .1) in (((c .before .before .before .before .before .before .before .before .before .before .before .before .before .before .before .before .before .before .before .before .before .pre .0 .0, (y .row-is, base-same _ _ _ (y .base-is) _ (c .before .before .before .upto .ensures))), (base-short _ _ _ (y .base-is) _ (c .before .before .before .upto .ensures) (search needs), (c .before .before .before .before .before .before .before .before .before .before .before .before .before .before .before .before .before .before .before .before .before .pre .1 .0, omega arith))), c .before .before .before .before .before .before .before .before .before .before .before .before .before .before .before .before .before .before .before .before .before .pre .1 .1)
 
 same-length : tie.Need-same-length
 same-length c = search needs

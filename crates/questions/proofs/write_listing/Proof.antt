@@ -1,31 +1,16 @@
-use mathlib.Core.Path.{refl, sym, ap, subst, _∙_}
-use mathlib.Core.Option.{some, none}
-use lib.ListN.{length}
-use borrow.Author.Tests.{not-true, not-false}
-use Rattle.records.specs.Items.{pathTable, foundNumber}
-use Rattle.records.proofs.Paths.{locate-within}
-use Rattle.book.specs.Find.{locate}
-use Rattle.path_rules.specs.Paths.{askedPath}
-use Rattle.strings.specs.Strings.{stringRule}
-use Rattle.tsconfig.specs.Mapping.{candidates}
+use mathlib.Core.Path.{refl, sym, _∙_}
+use native.Mathlib.Omega.{arith}
+use lib.Seq.{length-take-le}
 use Rattle.rows.specs.Records.{recordsOf}
 use Rattle.rows.specs.Rows.{siteOf}
-use Rattle.rows.proofs.Books.{accepted, accepted-paths}
-use Rattle.questions.specs.Replies.{buildReply, buildOf}
-use Rattle.questions.proofs.Replies.{kept-told, fit-short, told-given, emits-listing, site-numbered}
-use native.Mathlib.Omega.{arith}
-use borrow.Author.Needs.{needs}
+use Rattle.questions.specs.Replies.{buildReply}
+use Rattle.questions.proofs.Replies.{kept-told, fit-short, told-given, part-room, scratch-copied, emits-listing, site-numbered}
 use borrow.Author.Needs.{needs}
 use Rattle.questions.proofs.write_listing.Statement.{statement}
 use Rattle.questions.proofs.write_listing.Tie as tie
-use Rattle.questions.proofs.write_listing.Reads as reads
-use Rattle.questions.proofs.write_listing.Lts as lts
-use Rattle.listing.proofs.put_listing.Reads as put-listing-reads
-use Rattle.questions.proofs.refuse.Reads as refuse-reads
-use Rattle.sites.proofs.site_number.Reads as site-number-reads
 
 put-listing-requires : tie.Need-put-listing-requires
-put-listing-requires c κs = (c .before .before .before .before .before .before .before .before .pre .1 .0, (c .before .before .before .before .before .before .before .before .pre .1 .1 .0, (c .before .before .before .before .before .before .before .before .pre .1 .1 .1 .0, (c .before .before .before .before .before .before .before .before .pre .1 .1 .1 .1, omega arith))))
+put-listing-requires c κs = search needs
 
 refuse-requires : tie.Need-refuse-requires
 refuse-requires c κs = search needs
@@ -37,10 +22,19 @@ returns : tie.Need-returns
 returns c = let a = c .before .before .before .before .before .before .before .before .before .before .before .before .before .args in kept-told _ _ _ _ _ (fit-short (buildReply (recordsOf (a .commands .now) (a .text .now)) (siteOf (recordsOf (a .commands .now) (a .text .now)) (a .row .now)) (a .merges)) (a .out .now) _ _ _ (emits-listing (recordsOf (a .commands .now) (a .text .now)) (a .row .now) (a .merges) _ _ _ _ (c .before .before .before .before .put-listing .ensures)) (c .before .if1 .taken)) (c .refuse .ensures)
 
 site-number-requires : tie.Need-site-number-requires
-site-number-requires c κs = c .before .before .before .before .before .before .before .before .before .before .before .before .pre .1 .1 .0 .long
+site-number-requires c κs = search needs
 
-put-listing-requires-2 : tie.Need-put-listing-requires-2
-put-listing-requires-2 c κs = (c .before .before .before .before .before .before .before .before .before .before .before .before .before .before .pre .1 .0, (c .before .before .before .before .before .before .before .before .before .before .before .before .before .before .pre .1 .1 .0, (c .before .before .before .before .before .before .before .before .before .before .before .before .before .before .pre .1 .1 .1 .0, (c .before .before .before .before .before .before .before .before .before .before .before .before .before .before .pre .1 .1 .1 .1, omega arith))))
+slice-reshare-prefix-put-text : tie.Need-slice-reshare-prefix-put-text
+slice-reshare-prefix-put-text c = search needs
+
+slice-aggregate-put-text : tie.Need-slice-aggregate-put-text
+slice-aggregate-put-text c = sym (length-take-le _ _ (c .before .before .if2 .taken))
+
+put-text-requires : tie.Need-put-text-requires
+put-text-requires c κs = part-room _ _ (c .before .before .if2 .taken) (omega arith)
+
+reply-requires : tie.Need-reply-requires
+reply-requires c κs = search needs
 
 same-length-2 : tie.Need-same-length-2
 same-length-2 c = search needs
@@ -49,7 +43,22 @@ same-length-3 : tie.Need-same-length-3
 same-length-3 c = search needs
 
 returns-2 : tie.Need-returns-2
-returns-2 c = let a = c .before .before .before .before .before .before .before .before .before .before .before .before .before .before .before .before .before .args in told-given (buildReply (recordsOf (a .commands .now) (a .text .now)) (siteOf (recordsOf (a .commands .now) (a .text .now)) (a .row .now)) (a .merges)) (a .out .now) _ _ _ (emits-listing (recordsOf (a .commands .now) (a .text .now)) (a .row .now) (a .merges) _ _ _ _ (c .before .before .before .before .before .before .before .before .put-listing .ensures)) (c .before .before .before .before .before .if1 .left) _ _ (emits-listing (recordsOf (a .commands .now) (a .text .now)) (a .row .now) (a .merges) _ _ _ _ (c .before .before .put-listing2 .ensures)) _ refl refl (c .before .before .before .before .site-number .ensures ∙ site-numbered (recordsOf (a .commands .now) (a .text .now)) (a .row .now)) refl refl
+returns-2 c = let a = c .before .before .before .before .before .before .before .before .before .before .before .before .before .before .before .before .before .before .before .before .args in told-given (buildReply (recordsOf (a .commands .now) (a .text .now)) (siteOf (recordsOf (a .commands .now) (a .text .now)) (a .row .now)) (a .merges)) (a .out .now) _ _ _ (emits-listing (recordsOf (a .commands .now) (a .text .now)) (a .row .now) (a .merges) _ _ _ _ (c .before .before .before .before .before .before .before .before .before .before .before .put-listing .ensures)) (c .before .before .before .before .before .before .before .before .if1 .left) _ _ (scratch-copied _ _ _ _ (emits-listing (recordsOf (a .commands .now) (a .text .now)) (a .row .now) (a .merges) _ _ _ _ (c .before .before .before .before .before .before .before .before .before .before .before .put-listing .ensures)) (c .before .before .before .before .before .before .if2 .taken) _ _ _ (c .before .before .before .put-text .ensures)) _ _ _ (c .reply .ensures) (c .before .before .before .before .before .before .before .site-number .ensures ∙ site-numbered (recordsOf (a .commands .now) (a .text .now)) (a .row .now)) refl
+
+put-listing-requires-2 : tie.Need-put-listing-requires-2
+put-listing-requires-2 c κs = search needs
+
+reply-requires-2 : tie.Need-reply-requires-2
+reply-requires-2 c κs = search needs
+
+same-length-4 : tie.Need-same-length-4
+same-length-4 c = search needs
+
+same-length-5 : tie.Need-same-length-5
+same-length-5 c = search needs
+
+returns-3 : tie.Need-returns-3
+returns-3 c = let a = c .before .before .before .before .before .before .before .before .before .before .before .before .before .before .before .before .before .before .before .args in told-given (buildReply (recordsOf (a .commands .now) (a .text .now)) (siteOf (recordsOf (a .commands .now) (a .text .now)) (a .row .now)) (a .merges)) (a .out .now) _ _ _ (emits-listing (recordsOf (a .commands .now) (a .text .now)) (a .row .now) (a .merges) _ _ _ _ (c .before .before .before .before .before .before .before .before .before .before .put-listing .ensures)) (c .before .before .before .before .before .before .before .if1 .left) _ _ (emits-listing (recordsOf (a .commands .now) (a .text .now)) (a .row .now) (a .merges) _ _ _ _ (c .before .before .before .put-listing2 .ensures)) _ _ _ (c .reply2 .ensures) (c .before .before .before .before .before .before .site-number .ensures ∙ site-numbered (recordsOf (a .commands .now) (a .text .now)) (a .row .now)) refl
 
 pub write-listing-spec : {M : Type 1} → statement M
 write-listing-spec =
@@ -60,7 +69,15 @@ write-listing-spec =
     same-length
     returns
     site-number-requires
-    put-listing-requires-2
+    slice-reshare-prefix-put-text
+    slice-aggregate-put-text
+    put-text-requires
+    reply-requires
     same-length-2
     same-length-3
-    returns-2)
+    returns-2
+    put-listing-requires-2
+    reply-requires-2
+    same-length-4
+    same-length-5
+    returns-3)

@@ -1,19 +1,16 @@
-use mathlib.Core.Path.{refl}
+use mathlib.Core.Path.{refl, sym}
 use lib.ListN.{length}
+use lib.Seq.{length-take-le}
+use native.Mathlib.Omega.{arith}
 use Rattle.mapping.specs.Asks.{configAt}
 use Rattle.questions.specs.Replies.{pathsBy}
-use Rattle.questions.proofs.Replies.{kept-told, told-as, fit-short, told-given, listedReply, listed-fit}
-use native.Mathlib.Omega.{arith}
+use Rattle.questions.proofs.Replies.{kept-told, told-as, fit-short, told-given, part-room, scratch-copied, listedReply, listed-fit}
 use borrow.Author.Needs.{needs}
 use Rattle.questions.proofs.write_paths.Statement.{statement}
 use Rattle.questions.proofs.write_paths.Tie as tie
-use Rattle.questions.proofs.write_paths.Reads as reads
-use Rattle.questions.proofs.write_paths.Lts as lts
-use Rattle.questions.proofs.put_paths.Reads as put-paths-reads
-use Rattle.questions.proofs.refuse.Reads as refuse-reads
 
 put-paths-requires : tie.Need-put-paths-requires
-put-paths-requires c κs = c .before .before .before .before .before .before .before .before .before .before .pre .1
+put-paths-requires c κs = search needs
 
 refuse-requires : tie.Need-refuse-requires
 refuse-requires c κs = search needs
@@ -22,10 +19,19 @@ same-length : tie.Need-same-length
 same-length c = search needs
 
 returns : tie.Need-returns
-returns c = told-as _ _ _ _ _ (listed-fit (length (c .before .before .before .before .before .before .before .before .before .before .before .before .before .before .before .args .out .now)) (pathsBy (c .before .before .before .before .before .before .before .before .before .before .before .before .before .before .before .args .tried) (c .before .before .before .before .before .before .before .before .before .before .before .before .before .before .before .args .directory .now) (c .before .before .before .before .before .before .before .before .before .before .before .before .before .before .before .args .specifier .now) (configAt (c .before .before .before .before .before .before .before .before .before .before .before .before .before .before .before .args .commands .now) (c .before .before .before .before .before .before .before .before .before .before .before .before .before .before .before .args .text .now) (c .before .before .before .before .before .before .before .before .before .before .before .before .before .before .before .args .row .now)))) (kept-told _ _ _ _ _ (fit-short (listedReply (pathsBy (c .before .before .before .before .before .before .before .before .before .before .before .before .before .before .before .args .tried) (c .before .before .before .before .before .before .before .before .before .before .before .before .before .before .before .args .directory .now) (c .before .before .before .before .before .before .before .before .before .before .before .before .before .before .before .args .specifier .now) (configAt (c .before .before .before .before .before .before .before .before .before .before .before .before .before .before .before .args .commands .now) (c .before .before .before .before .before .before .before .before .before .before .before .before .before .before .before .args .text .now) (c .before .before .before .before .before .before .before .before .before .before .before .before .before .before .before .args .row .now)))) (c .before .before .before .before .before .before .before .before .before .before .before .before .before .before .before .args .out .now) _ _ _ (c .before .before .before .before .put-paths .ensures .emits) (c .before .if1 .taken)) (c .refuse .ensures))
+returns c = let a = c .before .before .before .before .before .before .before .before .before .before .before .before .before .before .before .args in told-as _ _ _ _ _ (listed-fit (length (a .out .now)) (pathsBy (a .tried) (a .directory .now) (a .specifier .now) (configAt (a .commands .now) (a .text .now) (a .row .now)))) (kept-told _ _ _ _ _ (fit-short (listedReply (pathsBy (a .tried) (a .directory .now) (a .specifier .now) (configAt (a .commands .now) (a .text .now) (a .row .now)))) (a .out .now) _ _ _ (c .before .before .before .before .put-paths .ensures .emits) (c .before .if1 .taken)) (c .refuse .ensures))
 
-put-paths-requires-2 : tie.Need-put-paths-requires-2
-put-paths-requires-2 c κs = c .before .before .before .before .before .before .before .before .before .before .before .before .before .before .before .pre .1
+slice-reshare-prefix-put-text : tie.Need-slice-reshare-prefix-put-text
+slice-reshare-prefix-put-text c = search needs
+
+slice-aggregate-put-text : tie.Need-slice-aggregate-put-text
+slice-aggregate-put-text c = sym (length-take-le _ _ (c .before .before .if2 .taken))
+
+put-text-requires : tie.Need-put-text-requires
+put-text-requires c κs = part-room _ _ (c .before .before .if2 .taken) (omega (arith, c .before .before .before .before .before .before .before .before .before .before .before .before .before .before .before .before .before .good .1 .1 .1 .1 .1 .1 .1 .1 .0 .1))
+
+reply-requires : tie.Need-reply-requires
+reply-requires c κs = search needs
 
 same-length-2 : tie.Need-same-length-2
 same-length-2 c = search needs
@@ -34,7 +40,22 @@ same-length-3 : tie.Need-same-length-3
 same-length-3 c = search needs
 
 returns-2 : tie.Need-returns-2
-returns-2 c = told-as _ _ _ _ _ (listed-fit (length (c .before .before .before .before .before .before .before .before .before .before .before .before .before .before .before .before .before .before .args .out .now)) (pathsBy (c .before .before .before .before .before .before .before .before .before .before .before .before .before .before .before .before .before .before .args .tried) (c .before .before .before .before .before .before .before .before .before .before .before .before .before .before .before .before .before .before .args .directory .now) (c .before .before .before .before .before .before .before .before .before .before .before .before .before .before .before .before .before .before .args .specifier .now) (configAt (c .before .before .before .before .before .before .before .before .before .before .before .before .before .before .before .before .before .before .args .commands .now) (c .before .before .before .before .before .before .before .before .before .before .before .before .before .before .before .before .before .before .args .text .now) (c .before .before .before .before .before .before .before .before .before .before .before .before .before .before .before .before .before .before .args .row .now)))) (told-given (listedReply (pathsBy (c .before .before .before .before .before .before .before .before .before .before .before .before .before .before .before .before .before .before .args .tried) (c .before .before .before .before .before .before .before .before .before .before .before .before .before .before .before .before .before .before .args .directory .now) (c .before .before .before .before .before .before .before .before .before .before .before .before .before .before .before .before .before .before .args .specifier .now) (configAt (c .before .before .before .before .before .before .before .before .before .before .before .before .before .before .before .before .before .before .args .commands .now) (c .before .before .before .before .before .before .before .before .before .before .before .before .before .before .before .before .before .before .args .text .now) (c .before .before .before .before .before .before .before .before .before .before .before .before .before .before .before .before .before .before .args .row .now)))) (c .before .before .before .before .before .before .before .before .before .before .before .before .before .before .before .before .before .before .args .out .now) _ _ _ (c .before .before .before .before .before .before .before .put-paths .ensures .emits) (c .before .before .before .before .if1 .left) _ _ (c .before .before .put-paths2 .ensures .emits) _ refl refl (c .before .before .put-paths2 .ensures .counts) refl refl)
+returns-2 c = let a = c .before .before .before .before .before .before .before .before .before .before .before .before .before .before .before .before .before .before .before .before .before .args in told-as _ _ _ _ _ (listed-fit (length (a .out .now)) (pathsBy (a .tried) (a .directory .now) (a .specifier .now) (configAt (a .commands .now) (a .text .now) (a .row .now)))) (told-given (listedReply (pathsBy (a .tried) (a .directory .now) (a .specifier .now) (configAt (a .commands .now) (a .text .now) (a .row .now)))) (a .out .now) _ _ _ (c .before .before .before .before .before .before .before .before .before .before .put-paths .ensures .emits) (c .before .before .before .before .before .before .before .if1 .left) _ _ (scratch-copied _ _ _ _ (c .before .before .before .before .before .before .before .before .before .before .put-paths .ensures .emits) (c .before .before .before .before .before .before .if2 .taken) _ _ _ (c .before .before .before .put-text .ensures)) _ _ _ (c .reply .ensures) (c .before .before .before .before .before .before .before .before .before .before .put-paths .ensures .counts) refl)
+
+put-paths-requires-2 : tie.Need-put-paths-requires-2
+put-paths-requires-2 c κs = search needs
+
+reply-requires-2 : tie.Need-reply-requires-2
+reply-requires-2 c κs = search needs
+
+same-length-4 : tie.Need-same-length-4
+same-length-4 c = search needs
+
+same-length-5 : tie.Need-same-length-5
+same-length-5 c = search needs
+
+returns-3 : tie.Need-returns-3
+returns-3 c = let a = c .before .before .before .before .before .before .before .before .before .before .before .before .before .before .before .before .before .before .before .before .args in told-as _ _ _ _ _ (listed-fit (length (a .out .now)) (pathsBy (a .tried) (a .directory .now) (a .specifier .now) (configAt (a .commands .now) (a .text .now) (a .row .now)))) (told-given (listedReply (pathsBy (a .tried) (a .directory .now) (a .specifier .now) (configAt (a .commands .now) (a .text .now) (a .row .now)))) (a .out .now) _ _ _ (c .before .before .before .before .before .before .before .before .before .put-paths .ensures .emits) (c .before .before .before .before .before .before .if1 .left) _ _ (c .before .before .before .put-paths2 .ensures .emits) _ _ _ (c .reply2 .ensures) (c .before .before .before .put-paths2 .ensures .counts) refl)
 
 pub write-paths-spec : {M : Type 1} → statement M
 write-paths-spec =
@@ -44,7 +65,15 @@ write-paths-spec =
     refuse-requires
     same-length
     returns
-    put-paths-requires-2
+    slice-reshare-prefix-put-text
+    slice-aggregate-put-text
+    put-text-requires
+    reply-requires
     same-length-2
     same-length-3
-    returns-2)
+    returns-2
+    put-paths-requires-2
+    reply-requires-2
+    same-length-4
+    same-length-5
+    returns-3)
