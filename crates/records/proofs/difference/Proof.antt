@@ -2,7 +2,6 @@ use mathlib.Core.Path.{sym, _∙_}
 use mathlib.Core.List.{_++_}
 use Rattle.join.specs.Join.{slashIf}
 use Rattle.records.proofs.Paths.{differs-short, differs-at, differs-tail}
-use native.Mathlib.Omega.{arith}
 use borrow.Author.Needs.{needs}
 use Rattle.records.proofs.difference.Statement.{statement}
 use Rattle.records.proofs.difference.Tie as tie
