@@ -2,15 +2,14 @@
 use mathlib.Core.Path.{_≡_, refl, sym, ap, _∙_}
 use mathlib.Core.List.{[], _∷_}
 use mathlib.Core.Bool.{Bool, true, false, not}
-use Prim.Native.Nat.{ℕ, zero, suc, _+_, _-_, _≤_, _<_}
+use Prim.Native.Nat.{ℕ, zero, suc, _+_, _-_, _<_}
 use native.Mathlib.Omega.{arith}
-use lib.ListN.{length, take, drop, getD, length-take, length-drop}
+use lib.ListN.{length, take, drop, getD, length-drop}
 use lib.Seq.{take-all, length-take-le, getD-take, getD-drop}
 use lib.Dec.{eqb, ltb}
 use borrow.Author.Tests.{eq-eqb, ne-eqb, eqb-true, eqb-false, ltb-true, ltb-false}
 use Rattle.text.specs.Bytes.{Text, slash, dot}
 use Rattle.text.specs.Text.{findLast, between}
-use Rattle.text.specs.declared.Found.{Found}
 use Rattle.text.specs.declared.Found.the-variants.{At, Nothing}
 use Rattle.text.proofs.Picks.{by-test, never}
 use Rattle.text.proofs.Scans.{last-here, last-on, last-none}

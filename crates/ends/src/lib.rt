@@ -17,11 +17,11 @@ ghost use Prim.Native.Nat.{_+_, _-_};
 ghost use lib.ListN.{length, drop};
 ghost use mathlib.Core.Bool.{true};
 ghost use Rattle.text.specs.Bytes.{slash};
-ghost use Rattle.text.specs.Text.{partOf, findLast};
+ghost use Rattle.text.specs.Text.{partOf};
 ghost use Rattle.emit.specs.Emit.{Holds};
 ghost use Rattle.components.specs.Components.{split, starts};
 ghost use Rattle.ends.specs.Ends.{joined, trimEnd, parentOf, lastPiece, fileName, extension};
-ghost use Rattle.ends.specs.Usual.{plain, slashAt, Stands, UsualParent};
+ghost use Rattle.ends.specs.Usual.{plain, Stands, UsualParent};
 
 // Where the last piece of s begins.
 fn last_start(s: &[u8]) -> usize

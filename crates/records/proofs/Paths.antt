@@ -97,13 +97,15 @@ module _ (p t q : Text) where
       (λ h. same-joined p t q (leb-true (length p) (length q) h) ∙ ap (λ (x : Bool). x && sameText t (drop (length p) q)) f)
       (λ h. joined-short (leb-false (length p) (length q) h))
 
-  module _ (o : Found) (e : isNothing o ≡ prefixOf p q) where
-    pub differs-at : (i : ℕ) → o ≡ At i → false ≡ sameText (p ++ t) q
-    differs-at i f = sym (joined-other (sym e ∙ ap isNothing f))
+  module _ (h : length p ≤ length q) (rest : Text) (d : rest ≡ drop (length p) q) (b : Bool) (e : b ≡ sameText t rest) where
+    tail-is : sameText (p ++ t) q ≡ (prefixOf p q && b)
+    tail-is = same-joined p t q h ∙ ap (λ (x : Bool). prefixOf p q && x) (ap (sameText t) (sym d) ∙ sym e)
 
-    pub differs-tail : o ≡ Nothing → length p ≤ length q → (rest : Text) → rest ≡ drop (length p) q → (b : Bool) → b ≡ sameText t rest → b ≡ sameText (p ++ t) q
-    differs-tail f h rest d b i =
-        i ∙ ap (sameText t) d ∙ ap (λ (x : Bool). x && sameText t (drop (length p) q)) (sym (ap isNothing f) ∙ e) ∙ sym (same-joined p t q h)
+    pub differs-tail : b ≡ false → false ≡ sameText (p ++ t) q
+    differs-tail f = sym (tail-is ∙ ap (λ (x : Bool). prefixOf p q && x) f ∙ and-false (prefixOf p q))
+
+    pub differs-front : b ≡ true → (o : Found) → isNothing o ≡ prefixOf p q → isNothing o ≡ sameText (p ++ t) q
+    differs-front y o i = i ∙ sym (tail-is ∙ ap (λ (x : Bool). prefixOf p q && x) y ∙ and-true (prefixOf p q))
 
 -- a path that begins with p, and then with a slash
 

@@ -139,22 +139,18 @@ fn last_difference(q: &[u8], p: &[u8]) -> Found
 }
 
 // Nothing where q is p and then the tail, after a slash where it is to stand apart. Else the place where such texts are best told apart:
-// where q differs from p, or k where it does not.
+// where q differs from p, or k where another tail follows. Texts of different length are not compared.
 fn difference(q: &[u8], p: &[u8], apart: bool, tail: &[u8], k: usize) -> Found
     ensures { λ r. ⌜ isNothing r ≡ sameText (now (p .entry) ++ (slashIf apart ++ now (tail .entry))) (now (q .entry)) ⌝ }
 {
     if q.len() < p.len() {
         return Found::At(k);
     }
-    match last_difference(q, p) {
-        Found::At(i) => return Found::At(i),
-        Found::Nothing => {}
-    }
     let rest = from(q, p.len());
-    if is_tail(rest, apart, tail) {
-        return Found::Nothing;
+    if !is_tail(rest, apart, tail) {
+        return Found::At(k);
     }
-    Found::At(k)
+    last_difference(q, p)
 }
 
 // The first row from i on, of n, that may begin with p. Only the byte k is looked at.

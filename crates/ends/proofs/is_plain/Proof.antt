@@ -1,6 +1,4 @@
 use Rattle.ends.proofs.Usual.{plain-slash, plain-dot}
-use native.Mathlib.Omega.{arith}
-use borrow.Author.Needs.{needs}
 use Rattle.ends.proofs.is_plain.Statement.{statement}
 use Rattle.ends.proofs.is_plain.Tie as tie
 use Rattle.ends.proofs.is_plain.Reads as reads

@@ -5,7 +5,6 @@ use Rattle.text.specs.Bytes.{slash}
 use Rattle.text.specs.Text.{findLast}
 use Rattle.ends.proofs.Usual.{root-some, slash-start, slash-more, slash-on, slash-here}
 use native.Mathlib.Omega.{arith}
-use borrow.Author.Needs.{needs}
 use Rattle.ends.proofs.last_slash.Statement.{statement}
 use Rattle.ends.proofs.last_slash.Tie as tie
 use Rattle.ends.proofs.last_slash.Reads as reads

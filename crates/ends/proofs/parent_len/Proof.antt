@@ -1,4 +1,3 @@
-use native.Mathlib.Omega.{arith}
 use borrow.Author.Needs.{needs}
 use Rattle.ends.proofs.parent_len.Statement.{statement}
 use Rattle.ends.proofs.parent_len.Tie as tie

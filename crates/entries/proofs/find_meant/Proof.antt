@@ -1,6 +1,5 @@
 use Rattle.records.specs.Items.{pathTable}
 use Rattle.entries.proofs.Entries.{meant-law}
-use native.Mathlib.Omega.{arith}
 use borrow.Author.Needs.{needs}
 use Rattle.entries.proofs.find_meant.Statement.{statement}
 use Rattle.entries.proofs.find_meant.Tie as tie

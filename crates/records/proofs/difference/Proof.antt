@@ -1,8 +1,7 @@
-use mathlib.Core.Path.{sym, _∙_}
 use mathlib.Core.List.{_++_}
+use borrow.Author.Tests.{not-true, not-false}
 use Rattle.join.specs.Join.{slashIf}
-use Rattle.records.proofs.Paths.{differs-short, differs-at, differs-tail}
-use native.Mathlib.Omega.{arith}
+use Rattle.records.proofs.Paths.{differs-short, differs-tail, differs-front}
 use borrow.Author.Needs.{needs}
 use Rattle.records.proofs.difference.Statement.{statement}
 use Rattle.records.proofs.difference.Tie as tie
@@ -15,40 +14,22 @@ use Rattle.text.proofs.from.Reads as from-reads
 returns : tie.Need-returns
 returns c = let a = c .before .before .before .before .args in differs-short (a .p .now) (slashIf (a .apart) ++ a .tail .now) (a .q .now) (c .if1 .taken)
 
-last-difference-requires : tie.Need-last-difference-requires
-last-difference-requires c κs = search needs
-
-enum-known-i : tie.Need-enum-known-i
-enum-known-i c = search needs
-
-returns-2 : tie.Need-returns-2
-returns-2 c = let a = c .before .before .before .before .before .before .before .before .args in differs-at (a .p .now) (slashIf (a .apart) ++ a .tail .now) (a .q .now) (c .before .before .before .last-difference .result) (c .before .before .before .last-difference .ensures) _ (c .before .i .given .1)
-
-enum-told : tie.Need-enum-told
-enum-told c = search needs
-
 from-requires : tie.Need-from-requires
 from-requires c κs = search needs
 
 is-tail-requires : tie.Need-is-tail-requires
 is-tail-requires c κs = search needs
 
-returns-3 : tie.Need-returns-3
-returns-3 c = let a = c .before .before .before .before .before .before .before .before .before .before .args in sym (c .if2 .taken) ∙ differs-tail (a .p .now) (slashIf (a .apart) ++ a .tail .now) (a .q .now) (c .before .before .before .before .before .last-difference .result) (c .before .before .before .before .before .last-difference .ensures) (c .before .before .before .enum-told .given .1) (c .before .before .before .before .before .before .if1 .left) _ (c .before .before .from .ensures) _ (c .before .is-tail .ensures)
+returns-2 : tie.Need-returns-2
+returns-2 c = let a = c .before .before .before .before .before .before .before .args in differs-tail (a .p .now) (slashIf (a .apart) ++ a .tail .now) (a .q .now) (c .before .before .before .if1 .left) _ (c .before .before .from .ensures) _ (c .before .is-tail .ensures) (not-true _ (c .if2 .taken))
 
-returns-4 : tie.Need-returns-4
-returns-4 c = let a = c .before .before .before .before .before .before .before .before .before .before .args in sym (c .if2 .left) ∙ differs-tail (a .p .now) (slashIf (a .apart) ++ a .tail .now) (a .q .now) (c .before .before .before .before .before .last-difference .result) (c .before .before .before .before .before .last-difference .ensures) (c .before .before .before .enum-told .given .1) (c .before .before .before .before .before .before .if1 .left) _ (c .before .before .from .ensures) _ (c .before .is-tail .ensures)
+last-difference-requires : tie.Need-last-difference-requires
+last-difference-requires c κs = search needs
+
+returns-3 : tie.Need-returns-3
+returns-3 c = let a = c .before .before .before .before .before .before .before .before .args in differs-front (a .p .now) (slashIf (a .apart) ++ a .tail .now) (a .q .now) (c .before .before .before .before .if1 .left) _ (c .before .before .before .from .ensures) _ (c .before .before .is-tail .ensures) (not-false _ (c .before .if2 .left)) (c .last-difference .result) (c .last-difference .ensures)
 
 pub difference-spec : {M : Type 1} → statement M
 difference-spec =
     tie.close
-    (tie.spec
-    returns
-    last-difference-requires
-    enum-known-i
-    returns-2
-    enum-told
-    from-requires
-    is-tail-requires
-    returns-3
-    returns-4)
+    (tie.spec returns from-requires is-tail-requires returns-2 last-difference-requires returns-3)

@@ -2,7 +2,6 @@ use Prim.Native.Nat.{_-_}
 use Rattle.records.specs.Looks.{Passed}
 use Rattle.records.proofs.Paths.{passed-none, passed-on}
 use native.Mathlib.Omega.{arith}
-use borrow.Author.Needs.{needs}
 use Rattle.records.proofs.next_like.Statement.{statement}
 use Rattle.records.proofs.next_like.Tie as tie
 use Rattle.records.proofs.next_like.Reads as reads
