@@ -206,7 +206,7 @@ fn is_file_in(path: &[u8], dir: &[u8], s: &[u8], buffer: &mut [u8]) -> bool
     same_path(upto(buffer, n), path)
 }
 
-// Whether an item of files, built in the directory, is the path. Most need a short buffer only.
+// Whether an item of files, built in the directory, is the path.
 fn is_file(path: &[u8], dir: &[u8], s: &[u8]) -> bool
     requires { ⌜ (length (now dir) ≤ 512) × (length (now s) ≤ 512) ⌝ }
     ensures { λ r. ⌜ r ≡ samePath (adjusted (now (dir .entry)) (now (dir .entry)) (now (s .entry))) (now (path .entry)) ⌝ }
