@@ -31,8 +31,8 @@ module _ (dir s : Text) where
   built-length = by-test (prefixOf configDir s) (λ t. rw t (in-config-dir-length dir s)) (λ f. rw f (normalize-length dir s))
 
   -- the length of such a string in a buffer
-  pub built-size : (length dir ≤ 512) × (length s ≤ 512) → (n : ℕ) (u : Text) → Holds n u (adjusted dir dir s) → n ≤ 1025
-  built-size h n u p = omega (arith, h, p .size, built-length)
+  pub built-size : (o : Text) → length dir + length s + 6 ≤ length o → (n : ℕ) (u : Text) → Holds n u (adjusted dir dir s) → n + 5 ≤ length o
+  built-size o h n u p = omega (arith, h, p .size, built-length)
 
 -- The loop over a record's items: what is left from the offset to on decides
 

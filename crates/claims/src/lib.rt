@@ -25,6 +25,7 @@ use text::SLASH;
 use text::STAR;
 use text::between;
 use text::same_text;
+use text::upto;
 use values::adjust;
 ghost use mathlib.Core.Path.{_≡_};
 ghost use mathlib.Core.List.{map};
@@ -57,6 +58,9 @@ const INCLUDE: usize = 1;
 const EXCLUDE: usize = 2;
 
 const ALLOW_JS: usize = 16;
+
+// The length of a buffer that is long enough for most items.
+const SHORT: usize = 256;
 
 // The flag id of allowJs.
 const ALLOW_JS_ID: u8 = 8;
@@ -171,14 +175,35 @@ fn is_matched(js: bool, path: &[u8], out: &mut [u8], n: usize) -> bool
     is_matched_by(js, path, &out[..k])
 }
 
-// Whether an item of include or exclude, built in the directory, matches the path.
+// Whether an item of include or exclude, built in the directory into the buffer, matches the path.
+fn is_item_matched_in(js: bool, path: &[u8], dir: &[u8], s: &[u8], buffer: &mut [u8]) -> bool
+    requires { ⌜ length (now dir) + length (now s) + 6 ≤ length (now buffer) ⌝ }
+    ensures { λ r. ⌜ r ≡ matched js (now (path .entry)) (adjusted (now (dir .entry)) (now (dir .entry)) (now (s .entry))) ⌝ }
+{
+    let n = adjust(dir, dir, s, buffer);
+    is_matched(js, path, buffer, n)
+}
+
+// Whether an item of include or exclude, built in the directory, matches the path. Most need a short buffer only.
 fn is_item_matched(js: bool, path: &[u8], dir: &[u8], s: &[u8]) -> bool
     requires { ⌜ (length (now dir) ≤ 512) × (length (now s) ≤ 512) ⌝ }
     ensures { λ r. ⌜ r ≡ matched js (now (path .entry)) (adjusted (now (dir .entry)) (now (dir .entry)) (now (s .entry))) ⌝ }
 {
+    if dir.len() + s.len() < SHORT - 6 {
+        let mut short = [0u8; SHORT];
+        return is_item_matched_in(js, path, dir, s, &mut short);
+    }
     let mut buffer = [0u8; 1100];
-    let n = adjust(dir, dir, s, &mut buffer);
-    is_matched(js, path, &mut buffer, n)
+    is_item_matched_in(js, path, dir, s, &mut buffer)
+}
+
+// Whether an item of files, built in the directory into the buffer, is the path.
+fn is_file_in(path: &[u8], dir: &[u8], s: &[u8], buffer: &mut [u8]) -> bool
+    requires { ⌜ length (now dir) + length (now s) + 6 ≤ length (now buffer) ⌝ }
+    ensures { λ r. ⌜ r ≡ samePath (adjusted (now (dir .entry)) (now (dir .entry)) (now (s .entry))) (now (path .entry)) ⌝ }
+{
+    let n = adjust(dir, dir, s, buffer);
+    same_path(upto(buffer, n), path)
 }
 
 // Whether an item of files, built in the directory, is the path.
@@ -186,9 +211,12 @@ fn is_file(path: &[u8], dir: &[u8], s: &[u8]) -> bool
     requires { ⌜ (length (now dir) ≤ 512) × (length (now s) ≤ 512) ⌝ }
     ensures { λ r. ⌜ r ≡ samePath (adjusted (now (dir .entry)) (now (dir .entry)) (now (s .entry))) (now (path .entry)) ⌝ }
 {
+    if dir.len() + s.len() < SHORT - 6 {
+        let mut short = [0u8; SHORT];
+        return is_file_in(path, dir, s, &mut short);
+    }
     let mut buffer = [0u8; 1100];
-    let n = adjust(dir, dir, s, &mut buffer);
-    same_path(&buffer[..n], path)
+    is_file_in(path, dir, s, &mut buffer)
 }
 
 // Whether one of the items with the byte op, of the record that stands at the offset, matches the path.
