@@ -1,10 +1,10 @@
 // The book: its commands, and what is wrong with one of them, given those before it.
 use compare::covers;
 use compare::digest;
-use patterns::is_pattern_of;
 use path_rules::is_record_path_of;
-use strings::is_string_of;
 use path_rules::obeys_lead;
+use patterns::is_pattern_of;
+use strings::is_string_of;
 use text::from;
 use text::upto;
 ghost use mathlib.Core.Path.{_≡_};
