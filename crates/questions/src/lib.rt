@@ -22,8 +22,9 @@ ghost use mathlib.Core.List.{[], _∷_};
 ghost use mathlib.Core.Bool.{true};
 ghost use Rattle.mapping.specs.Asks.{configAt, Asks};
 ghost use Rattle.mapping.specs.Targets.{Lists};
-ghost use Prim.Native.Nat.{_<_, _≤_};
-ghost use lib.ListN.{length};
+ghost use Prim.Native.Nat.{_<_, _≤_, _^_};
+ghost use lib.ListN.{length, take};
+ghost use Rattle.emit.specs.Emit.{Emits};
 ghost use Rattle.book.specs.Answer.{refused};
 ghost use Rattle.rows.specs.Rows.{Row, siteOf};
 ghost use Rattle.rows.specs.Records.{Records, Paths, recordsOf};
@@ -81,6 +82,14 @@ fn reply(first: usize, second: usize, bytes: usize) -> Numbers
     }
 }
 
+// The first n bytes of the scratch, copied to the start of the output.
+fn copy_out(scratch: &[u8], n: usize, out: &mut [u8]) -> usize
+    requires { ⌜ (n ≤ length (now scratch)) × (n < 2 ^ 63) ⌝ }
+    ensures { λ r. ⌜ Emits (take n (now (scratch .entry))) (now (out .entry)) 0 (now (out .exit)) r ⌝ }
+{
+    put_text(out, 0, &scratch[..n])
+}
+
 // The listing of a row's config, where it fits the output. It is written to the scratch first, which counts it, and from there to the output; where
 // the scratch is too short it is written once more.
 fn write_listing(
@@ -102,7 +111,7 @@ fn write_listing(
     }
     let number = site_number(row);
     if need <= scratch.len() {
-        let bytes = put_text(out, 0, &scratch[..need]);
+        let bytes = copy_out(scratch, need, out);
         return reply(number, merges, bytes);
     }
     let bytes = put_listing(commands, text, begins, row, base, out, 0);
@@ -287,12 +296,12 @@ fn write_paths(
         scratch,
         0,
     );
-    let need = counted.at;
-    if out.len() < need {
-        return refuse(13, need);
+    let size = counted.at;
+    if out.len() < size {
+        return refuse(13, size);
     }
-    if need <= scratch.len() {
-        let bytes = put_text(out, 0, &scratch[..need]);
+    if size <= scratch.len() {
+        let bytes = copy_out(scratch, size, out);
         return reply(counted.count, 0, bytes);
     }
     let wrote = put_paths(

@@ -1,13 +1,19 @@
 use mathlib.Core.Path.{refl, sym, _∙_}
-use native.Mathlib.Omega.{arith}
-use lib.Seq.{length-take-le}
 use Rattle.rows.specs.Records.{recordsOf}
 use Rattle.rows.specs.Rows.{siteOf}
 use Rattle.questions.specs.Replies.{buildReply}
-use Rattle.questions.proofs.Replies.{kept-told, fit-short, told-given, part-room, scratch-copied, emits-listing, site-numbered}
+use Rattle.questions.proofs.Replies.{kept-told, fit-short, told-given, scratch-copied, emits-listing, site-numbered}
+use native.Mathlib.Omega.{arith}
 use borrow.Author.Needs.{needs}
 use Rattle.questions.proofs.write_listing.Statement.{statement}
 use Rattle.questions.proofs.write_listing.Tie as tie
+use Rattle.questions.proofs.write_listing.Reads as reads
+use Rattle.questions.proofs.write_listing.Lts as lts
+use Rattle.listing.proofs.put_listing.Reads as put-listing-reads
+use Rattle.questions.proofs.copy_out.Reads as copy-out-reads
+use Rattle.questions.proofs.refuse.Reads as refuse-reads
+use Rattle.questions.proofs.reply.Reads as reply-reads
+use Rattle.sites.proofs.site_number.Reads as site-number-reads
 
 put-listing-requires : tie.Need-put-listing-requires
 put-listing-requires c κs = search needs
@@ -24,14 +30,8 @@ returns c = let a = c .before .before .before .before .before .before .before .b
 site-number-requires : tie.Need-site-number-requires
 site-number-requires c κs = search needs
 
-slice-reshare-prefix-put-text : tie.Need-slice-reshare-prefix-put-text
-slice-reshare-prefix-put-text c = search needs
-
-slice-aggregate-put-text : tie.Need-slice-aggregate-put-text
-slice-aggregate-put-text c = sym (length-take-le _ _ (c .before .before .if2 .taken))
-
-put-text-requires : tie.Need-put-text-requires
-put-text-requires c κs = part-room _ _ (c .before .before .if2 .taken) (omega arith)
+copy-out-requires : tie.Need-copy-out-requires
+copy-out-requires c κs = search needs
 
 reply-requires : tie.Need-reply-requires
 reply-requires c κs = search needs
@@ -43,7 +43,7 @@ same-length-3 : tie.Need-same-length-3
 same-length-3 c = search needs
 
 returns-2 : tie.Need-returns-2
-returns-2 c = let a = c .before .before .before .before .before .before .before .before .before .before .before .before .before .before .before .before .before .before .before .before .args in told-given (buildReply (recordsOf (a .commands .now) (a .text .now)) (siteOf (recordsOf (a .commands .now) (a .text .now)) (a .row .now)) (a .merges)) (a .out .now) _ _ _ (emits-listing (recordsOf (a .commands .now) (a .text .now)) (a .row .now) (a .merges) _ _ _ _ (c .before .before .before .before .before .before .before .before .before .before .before .put-listing .ensures)) (c .before .before .before .before .before .before .before .before .if1 .left) _ _ (scratch-copied _ _ _ _ (emits-listing (recordsOf (a .commands .now) (a .text .now)) (a .row .now) (a .merges) _ _ _ _ (c .before .before .before .before .before .before .before .before .before .before .before .put-listing .ensures)) (c .before .before .before .before .before .before .if2 .taken) _ _ _ (c .before .before .before .put-text .ensures)) _ _ _ (c .reply .ensures) (c .before .before .before .before .before .before .before .site-number .ensures ∙ site-numbered (recordsOf (a .commands .now) (a .text .now)) (a .row .now)) refl
+returns-2 c = let a = c .before .before .before .before .before .before .before .before .before .before .before .before .before .before .before .before .before .before .before .before .args in told-given (buildReply (recordsOf (a .commands .now) (a .text .now)) (siteOf (recordsOf (a .commands .now) (a .text .now)) (a .row .now)) (a .merges)) (a .out .now) _ _ _ (emits-listing (recordsOf (a .commands .now) (a .text .now)) (a .row .now) (a .merges) _ _ _ _ (c .before .before .before .before .before .before .before .before .before .before .before .put-listing .ensures)) (c .before .before .before .before .before .before .before .before .if1 .left) _ _ (scratch-copied _ _ _ _ (emits-listing (recordsOf (a .commands .now) (a .text .now)) (a .row .now) (a .merges) _ _ _ _ (c .before .before .before .before .before .before .before .before .before .before .before .put-listing .ensures)) (c .before .before .before .before .before .before .if2 .taken) _ _ _ (c .before .before .before .copy-out .ensures)) _ _ _ (c .reply .ensures) (c .before .before .before .before .before .before .before .site-number .ensures ∙ site-numbered (recordsOf (a .commands .now) (a .text .now)) (a .row .now)) refl
 
 put-listing-requires-2 : tie.Need-put-listing-requires-2
 put-listing-requires-2 c κs = search needs
@@ -69,9 +69,7 @@ write-listing-spec =
     same-length
     returns
     site-number-requires
-    slice-reshare-prefix-put-text
-    slice-aggregate-put-text
-    put-text-requires
+    copy-out-requires
     reply-requires
     same-length-2
     same-length-3

@@ -1,13 +1,18 @@
 use mathlib.Core.Path.{refl, sym}
 use lib.ListN.{length}
-use lib.Seq.{length-take-le}
 use native.Mathlib.Omega.{arith}
 use Rattle.mapping.specs.Asks.{configAt}
 use Rattle.questions.specs.Replies.{pathsBy}
-use Rattle.questions.proofs.Replies.{kept-told, told-as, fit-short, told-given, part-room, scratch-copied, listedReply, listed-fit}
+use Rattle.questions.proofs.Replies.{kept-told, told-as, fit-short, told-given, scratch-copied, listedReply, listed-fit}
 use borrow.Author.Needs.{needs}
 use Rattle.questions.proofs.write_paths.Statement.{statement}
 use Rattle.questions.proofs.write_paths.Tie as tie
+use Rattle.questions.proofs.write_paths.Reads as reads
+use Rattle.questions.proofs.write_paths.Lts as lts
+use Rattle.questions.proofs.copy_out.Reads as copy-out-reads
+use Rattle.questions.proofs.put_paths.Reads as put-paths-reads
+use Rattle.questions.proofs.refuse.Reads as refuse-reads
+use Rattle.questions.proofs.reply.Reads as reply-reads
 
 put-paths-requires : tie.Need-put-paths-requires
 put-paths-requires c κs = search needs
@@ -21,14 +26,8 @@ same-length c = search needs
 returns : tie.Need-returns
 returns c = let a = c .before .before .before .before .before .before .before .before .before .before .before .before .before .before .before .args in told-as _ _ _ _ _ (listed-fit (length (a .out .now)) (pathsBy (a .tried) (a .directory .now) (a .specifier .now) (configAt (a .commands .now) (a .text .now) (a .row .now)))) (kept-told _ _ _ _ _ (fit-short (listedReply (pathsBy (a .tried) (a .directory .now) (a .specifier .now) (configAt (a .commands .now) (a .text .now) (a .row .now)))) (a .out .now) _ _ _ (c .before .before .before .before .put-paths .ensures .emits) (c .before .if1 .taken)) (c .refuse .ensures))
 
-slice-reshare-prefix-put-text : tie.Need-slice-reshare-prefix-put-text
-slice-reshare-prefix-put-text c = search needs
-
-slice-aggregate-put-text : tie.Need-slice-aggregate-put-text
-slice-aggregate-put-text c = sym (length-take-le _ _ (c .before .before .if2 .taken))
-
-put-text-requires : tie.Need-put-text-requires
-put-text-requires c κs = part-room _ _ (c .before .before .if2 .taken) (omega (arith, c .before .before .before .before .before .before .before .before .before .before .before .before .before .before .before .before .before .good .1 .1 .1 .1 .1 .1 .1 .1 .0 .1))
+copy-out-requires : tie.Need-copy-out-requires
+copy-out-requires c κs = (c .before .before .if2 .taken, omega (arith, c .before .before .before .before .before .before .before .before .before .before .before .before .before .before .before .before .before .good .1 .1 .1 .1 .1 .1 .1 .1 .0 .1))
 
 reply-requires : tie.Need-reply-requires
 reply-requires c κs = search needs
@@ -40,7 +39,7 @@ same-length-3 : tie.Need-same-length-3
 same-length-3 c = search needs
 
 returns-2 : tie.Need-returns-2
-returns-2 c = let a = c .before .before .before .before .before .before .before .before .before .before .before .before .before .before .before .before .before .before .before .before .before .args in told-as _ _ _ _ _ (listed-fit (length (a .out .now)) (pathsBy (a .tried) (a .directory .now) (a .specifier .now) (configAt (a .commands .now) (a .text .now) (a .row .now)))) (told-given (listedReply (pathsBy (a .tried) (a .directory .now) (a .specifier .now) (configAt (a .commands .now) (a .text .now) (a .row .now)))) (a .out .now) _ _ _ (c .before .before .before .before .before .before .before .before .before .before .put-paths .ensures .emits) (c .before .before .before .before .before .before .before .if1 .left) _ _ (scratch-copied _ _ _ _ (c .before .before .before .before .before .before .before .before .before .before .put-paths .ensures .emits) (c .before .before .before .before .before .before .if2 .taken) _ _ _ (c .before .before .before .put-text .ensures)) _ _ _ (c .reply .ensures) (c .before .before .before .before .before .before .before .before .before .before .put-paths .ensures .counts) refl)
+returns-2 c = let a = c .before .before .before .before .before .before .before .before .before .before .before .before .before .before .before .before .before .before .before .before .before .args in told-as _ _ _ _ _ (listed-fit (length (a .out .now)) (pathsBy (a .tried) (a .directory .now) (a .specifier .now) (configAt (a .commands .now) (a .text .now) (a .row .now)))) (told-given (listedReply (pathsBy (a .tried) (a .directory .now) (a .specifier .now) (configAt (a .commands .now) (a .text .now) (a .row .now)))) (a .out .now) _ _ _ (c .before .before .before .before .before .before .before .before .before .before .put-paths .ensures .emits) (c .before .before .before .before .before .before .before .if1 .left) _ _ (scratch-copied _ _ _ _ (c .before .before .before .before .before .before .before .before .before .before .put-paths .ensures .emits) (c .before .before .before .before .before .before .if2 .taken) _ _ _ (c .before .before .before .copy-out .ensures)) _ _ _ (c .reply .ensures) (c .before .before .before .before .before .before .before .before .before .before .put-paths .ensures .counts) refl)
 
 put-paths-requires-2 : tie.Need-put-paths-requires-2
 put-paths-requires-2 c κs = search needs
@@ -65,9 +64,7 @@ write-paths-spec =
     refuse-requires
     same-length
     returns
-    slice-reshare-prefix-put-text
-    slice-aggregate-put-text
-    put-text-requires
+    copy-out-requires
     reply-requires
     same-length-2
     same-length-3
