@@ -12,6 +12,9 @@ ghost use Rattle.text.specs.Bytes.{slash};
 ghost use Rattle.path.specs.Path.{normal};
 ghost use Rattle.normal.specs.Scan.{nameless, namesBehind};
 
+// Below this length a path is looked at slash by slash: it is too short for a loop that works on many bytes at a time.
+const SHORT: usize = 19;
+
 // 1 where w is a slash and no name stands behind it, but nothing, `.` or `..`; x, y and z are the next bytes. Else 0.
 fn no_name(w: u8, x: u8, y: u8, z: u8) -> u8
     ensures { λ r. ⌜ eqb r 0 ≡ not (eqb w slash && nameless x y z) ⌝ }
@@ -31,7 +34,7 @@ fn byte_or_slash(s: &[u8], k: usize) -> u8
     SLASH
 }
 
-// Whether a name stands behind each slash of s, slash by slash: for the few bytes at an end.
+// Whether a name stands behind each slash of s, slash by slash: for a short path, and the few bytes at an end.
 fn ends_in_names(s: &[u8]) -> bool
     ensures { λ r. ⌜ r ≡ namesBehind (now (s .entry)) ⌝ }
 {
@@ -83,6 +86,9 @@ pub fn is_normal(s: &[u8]) -> bool
     }
     if s.len() == 1 {
         return true;
+    }
+    if s.len() < SHORT {
+        return ends_in_names(s);
     }
     has_names(s)
 }
