@@ -1,1 +1,2 @@
+-- Laws of the ends of lines.
 pub mod Lines

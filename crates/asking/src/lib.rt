@@ -1,5 +1,10 @@
 // Answers question lines about a book: `book.cmd` and `book.txt` of the current folder, the lines from standard input to its end, the
 // answers to standard output.
+use asked::Kind;
+use asked::fields;
+use asked::first_field;
+use asked::kind_of;
+use asked::other_fields;
 use libc::STDIN_FILENO;
 use libc::STDOUT_FILENO;
 use questions::Numbers;
@@ -10,15 +15,12 @@ use questions::tsconfig_tries;
 use text::Found;
 use text::find_byte;
 use text::from;
-use text::part_after;
-use text::part_before;
 use text::upto;
 ghost use Prim.Native.Nat.{_+_, _<_, _≤_};
 ghost use lib.ListN.{length};
+ghost use Rattle.asking.specs.Loaded.{Within};
 
 const LINE_END: u8 = 0x0A;
-
-const TAB: u8 = 0x09;
 
 // What owner answers for both configs where there is none.
 const NONE: u64 = 65535;
@@ -41,7 +43,7 @@ pub fn say_number(n: u64) {
 }
 
 // Writes a line.
-pub fn say_line(s: &[u8]) {
+fn say_line(s: &[u8]) {
     say(s);
     say(b"\n");
 }
@@ -150,64 +152,6 @@ fn answer_tries(
         return;
     }
     say_list(b"tries", r.first, upto(out, r.bytes as usize));
-}
-
-// What a line asks.
-pub enum Kind {
-    Build,
-    Owner,
-    Candidates,
-    Tries,
-    Unknown,
-}
-
-fn has_tab(s: &[u8]) -> bool {
-    let Found::At(_) = find_byte(s, TAB) else {
-        return false;
-    };
-    true
-}
-
-// A letter, a blank, and the letter's fields, parted by tabs. A field holds no tab where another follows.
-pub fn kind_of(line: &[u8]) -> Kind {
-    if line.len() < 2 {
-        return Kind::Unknown;
-    }
-    if line[1] != b' ' {
-        return Kind::Unknown;
-    }
-    match line[0] {
-        b'B' => Kind::Build,
-        b'O' => Kind::Owner,
-        b'C' => {
-            if has_tab(line) {
-                return Kind::Candidates;
-            }
-            Kind::Unknown
-        }
-        b'T' => {
-            if has_tab(part_after(line, TAB)) {
-                return Kind::Tries;
-            }
-            Kind::Unknown
-        }
-        _ => Kind::Unknown,
-    }
-}
-
-// The fields of a line, after its letter and blank.
-pub fn fields(line: &[u8]) -> &[u8] {
-    from(line, 2)
-}
-
-// The first of some fields.
-pub fn first_field(fields: &[u8]) -> &[u8] {
-    part_before(fields, TAB)
-}
-
-// The fields after the first.
-pub fn other_fields(fields: &[u8]) -> &[u8] {
-    part_after(fields, TAB)
 }
 
 fn answer(commands: &[u8], text: &[u8], line: &[u8], out: &mut [u8]) {
@@ -388,32 +332,11 @@ fn answer_all(commands: &[u8], text: &[u8], buffer: &mut [u8], out: &mut [u8]) {
     }
 }
 
-// What an output is filled with before a question, where it is looked at which of its bytes stay.
-const PATTERN: u8 = 0xA5;
-
-pub fn fill(room: &mut [u8]) {
-    let mut i = 0;
-    while i < room.len() {
-        room[i] = PATTERN;
-        i += 1;
-    }
-}
-
-// Whether all of s is still as it was filled.
-pub fn is_kept(s: &[u8]) -> bool {
-    let mut i = 0;
-    while i < s.len() {
-        if s[i] != PATTERN {
-            return false;
-        }
-        i += 1;
-    }
-    true
-}
-
 // Reads a file whole, as far as there is room. Says what is wrong where it cannot be read: one more read tells a file that ended from one
 // that failed.
-pub fn load(name: &[u8], room: &mut [u8]) -> Found {
+pub fn load(name: &[u8], room: &mut [u8]) -> Found
+    ensures { λ r. ⌜ Within (length (now (room .entry))) r ⌝ }
+{
     let fd = os::open_read(name);
     if fd < 0 {
         os::fail(name);

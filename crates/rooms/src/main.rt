@@ -1,14 +1,14 @@
 // Asks each question of a list for three sizes of its output. With no room the refusal tells how many bytes the answer needs; with just so many
 // it is answered, and nothing is written behind them; with one fewer it is refused by the same number, and nothing is written at all. Writes
 // for each question its line, the bytes, and `ok` for each of the two sizes, or what is wrong.
-use asking::Kind;
-use asking::fields;
-use asking::fill;
-use asking::first_field;
-use asking::is_kept;
-use asking::kind_of;
+use asked::Kind;
+use asked::fields;
+use asked::fill;
+use asked::first_field;
+use asked::is_kept;
+use asked::kind_of;
+use asked::other_fields;
 use asking::load;
-use asking::other_fields;
 use asking::say;
 use asking::say_number;
 use questions::Numbers;

@@ -1,8 +1,8 @@
 // Holds the four questions to a fixed list of the crate's own answers, data/sample.bin; host/differential says how it is made and what an entry of
 // it is. Writes how often each refusal is the answer, 0 standing for none, and then the questions asked, those that are answered otherwise than the
 // list says, and the number of the first of these, 0 where there is none.
-use asking::fill;
-use asking::is_kept;
+use asked::fill;
+use asked::is_kept;
 use asking::load;
 use asking::say;
 use asking::say_number;

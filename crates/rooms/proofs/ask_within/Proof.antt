@@ -9,7 +9,7 @@ use Rattle.rooms.proofs.ask_within.Tie as tie
 use Rattle.rooms.proofs.ask_within.Reads as reads
 use Rattle.rooms.proofs.ask_within.Lts as lts
 use Rattle.rooms.proofs.ask.Reads as ask-reads
-use Rattle.asking.proofs.fill.Reads as fill-reads
+use Rattle.asked.proofs.fill.Reads as fill-reads
 
 fill-requires : tie.Need-fill-requires
 fill-requires c κs = search needs

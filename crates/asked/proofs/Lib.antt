@@ -1,0 +1,3 @@
+-- Laws of question lines and of filled outputs.
+pub mod Letters
+pub mod Filled
