@@ -80,16 +80,19 @@ module _ (op : ℕ) (s : Text) where
   own-pattern (inl e) = rw e refl
   own-pattern (inr e) = rw e refl
 
-  pub own-path : OneOf (1 ∷ 8 ∷ 13 ∷ []) op → cond (eqb op begin) (recordPath s) (leadRule s) ≡ ownRule op s
+  pub own-lead : OneOf (8 ∷ 13 ∷ []) op → leadRule s ≡ ownRule op s
   unfolding ownRule
-  own-path (inl e) = rw e refl
-  own-path (inr (inl e)) = rw e refl
-  own-path (inr (inr e)) = rw e refl
+  own-lead (inl e) = rw e refl
+  own-lead (inr e) = rw e refl
 
-  pub own-none : (OneOf (5 ∷ 7 ∷ []) op → ⊥) → (OneOf (1 ∷ 8 ∷ 13 ∷ []) op → ⊥) → true ≡ ownRule op s
+  pub own-begin : op ≡ begin → recordPath s ≡ ownRule op s
   unfolding ownRule
-  own-none a b =
-      rw (ne-eqb op 1 (λ e. b (inl e)), ne-eqb op 8 (λ e. b (inr (inl e))), ne-eqb op 13 (λ e. b (inr (inr e))), ne-eqb op 5 (λ e. a (inl e)), ne-eqb op 7 (λ e. a (inr e))) refl
+  own-begin e = rw e refl
+
+  pub own-none : (op ≡ begin → ⊥) → (OneOf (5 ∷ 7 ∷ []) op → ⊥) → (OneOf (8 ∷ 13 ∷ []) op → ⊥) → true ≡ ownRule op s
+  unfolding ownRule
+  own-none n a b =
+      rw (ne-eqb op 1 n, ne-eqb op 8 (λ e. b (inl e)), ne-eqb op 13 (λ e. b (inr e)), ne-eqb op 5 (λ e. a (inl e)), ne-eqb op 7 (λ e. a (inr e))) refl
 
 pub limit-keys : (v : ℕ) (ks : List ℕ) → T (every (λ i k. eqb v (getD limits k 0)) 0 ks) → (x : ℕ) → OneOf ks x → v ≡ getD limits x 0
 limit-keys v ks t x h = eqb-true v (getD limits x 0) (at-keys (λ k. eqb v (getD limits k 0)) ks t x h)

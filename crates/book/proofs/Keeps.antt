@@ -12,6 +12,8 @@ use borrow.Author.Tests.{eq-eqb, ne-eqb, le-leb, lt-leb, eqb-true, eqb-false, le
 use Rattle.text.specs.Bytes.{Text}
 use Rattle.book.specs.declared.Cmd.{Cmd}
 use Rattle.strings.specs.Strings.{stringRule}
+use Rattle.strings.specs.Scan.{tameText}
+use Rattle.strings.proofs.Tame.{tame-part}
 use Rattle.book.specs.Command.{begin, key, target, flag, textOption}
 use Rattle.book.specs.Rules.{slot, inRange, tally, openers, limits, opened, fresh, follows, inOrder, tooMany, textOf, ownRule, goodString}
 use Rattle.book.specs.State.{has, pushed, Agrees, Slotted}
@@ -101,22 +103,40 @@ pub fresh-some : (op n most : ℕ) → (n ≡ 0 → ⊥) → most ≡ getD limit
 fresh-some op n most z e = rw (ne-eqb n 0 z, ← e) (sym (or-false (not (eqb most 0))))
 
 module _ (text : Text) (c : Cmd) where
-  pub good-out : length text < c .start + c .len → false ≡ goodString text c
-  unfolding goodString
-  good-out h = rw (lt-leb _ _ h) refl
+  pub held-out : length text < c .start + c .len → false ≡ (leb (c .start + c .len) (length text) && stringRule (textOf text c))
+  held-out h = rw (lt-leb _ _ h) refl
 
-  pub good-plain : c .start + c .len ≤ length text → stringRule (textOf text c) ≡ false → false ≡ goodString text c
-  unfolding goodString
-  good-plain h e = rw (le-leb _ _ h, e) refl
+  pub held-on : c .start + c .len ≤ length text → (r : Bool) → r ≡ stringRule (textOf text c) → r ≡ (leb (c .start + c .len) (length text) && stringRule (textOf text c))
+  held-on h r e = rw (le-leb _ _ h) e
 
-  pub good-on : c .start + c .len ≤ length text → stringRule (textOf text c) ≡ true → (r : Bool) → r ≡ ownRule (c .op) (textOf text c) → r ≡ goodString text c
-  unfolding goodString
-  good-on h e r k = rw (le-leb _ _ h, e) k
+  module _ (b : Bool) (e : b ≡ (leb (c .start + c .len) (length text) && stringRule (textOf text c))) where
+    pub good-not : b ≡ false → false ≡ goodString text c
+    unfolding goodString
+    good-not f = not-both (leb (c .start + c .len) (length text)) (stringRule (textOf text c)) (sym e ∙ f)
+      where
+        not-both : (x y : Bool) → (x && y) ≡ false → false ≡ (x && (y && ownRule (c .op) (textOf text c)))
+        not-both true true z = absurd (true≢false z)
+        not-both true false z = refl
+        not-both false y z = refl
+
+    pub good-on : b ≡ true → (r : Bool) → r ≡ ownRule (c .op) (textOf text c) → r ≡ goodString text c
+    unfolding goodString
+    good-on t r k = yes-both (leb (c .start + c .len) (length text)) (stringRule (textOf text c)) (sym e ∙ t)
+      where
+        yes-both : (x y : Bool) → (x && y) ≡ true → r ≡ (x && (y && ownRule (c .op) (textOf text c)))
+        yes-both true true z = k
+        yes-both true false z = absurd (true≢false (sym z))
+        yes-both false y z = absurd (true≢false (sym z))
 
 -- a command's string, cut out of the text
 pub cut-text : (text : Text) (c : Cmd) → take (c .start + c .len - c .start) (drop (c .start) text) ≡ textOf text c
 unfolding textOf
 cut-text text c = let e : c .start + c .len - c .start ≡ c .len = omega arith in ap (λ (k : ℕ). take k (drop (c .start) text)) e
+
+-- a command's string is a part of a tame text
+pub tame-string : (text : Text) (c : Cmd) → tameText text ≡ true → (s : Text) → s ≡ textOf text c → tameText s ≡ true
+unfolding textOf
+tame-string text c t s e = subst (λ (l : Text). tameText l ≡ true) (sym e) (tame-part text (c .start) (c .len) t)
 
 -- the ways out of the code's slot
 module _ (c : Cmd) (op id : ℕ) (is : op ≡ c .op) (at : id ≡ c .id) where

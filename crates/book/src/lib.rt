@@ -9,12 +9,12 @@ use text::from;
 use text::upto;
 ghost use mathlib.Core.Path.{_≡_};
 ghost use mathlib.Core.List.{[]};
-ghost use mathlib.Core.Bool.{true, false, not, _||_, cond};
+ghost use mathlib.Core.Bool.{true, false, not, _&&_, _||_, cond};
 ghost use Prim.Native.Nat.{_+_, _*_, _<_, _≤_};
 ghost use lib.ListN.{length, getD, set, take, drop};
-ghost use lib.Dec.{eqb};
+ghost use lib.Dec.{eqb, leb};
 ghost use Rattle.text.specs.Text.{someOf};
-ghost use Rattle.path_rules.specs.Paths.{recordPath, leadRule};
+ghost use Rattle.strings.specs.Strings.{stringRule};
 ghost use Rattle.strings.specs.Scan.{tameText};
 ghost use Rattle.compare.specs.Compare.{digestFrom};
 ghost use Rattle.book.specs.Command.{begin, key, target, widthOf, word, operands};
@@ -108,14 +108,14 @@ pub enum Step {
 }
 
 // A byte as an index.
-fn wide(x: u8) -> usize
+pub fn wide(x: u8) -> usize
     ensures { λ r. ⌜ (r ≡ x) × (r < 256) ⌝ }
 {
     x as usize
 }
 
 // Whether a command's operands are a string and nothing else, as most commands' are.
-fn is_spanned(op: u8) -> bool
+pub fn is_spanned(op: u8) -> bool
     ensures { λ r. ⌜ r ≡ eqb (widthOf op) 4 ⌝ }
 {
     match op {
@@ -136,7 +136,7 @@ fn is_spanned(op: u8) -> bool
 }
 
 // The operand bytes of any other command; 9 for an unknown byte.
-fn width(op: u8) -> usize
+pub fn width(op: u8) -> usize
     requires { ⌜ eqb (widthOf op) 4 ≡ false ⌝ }
     ensures { λ r. ⌜ r ≡ widthOf op ⌝ }
 {
@@ -157,7 +157,7 @@ pub fn word_at(s: &[u8], at: usize) -> usize
 }
 
 // The command at the head of s, whose operands are a string, which is there.
-fn read_span(s: &[u8]) -> Cmd
+pub fn read_span(s: &[u8]) -> Cmd
     requires { ⌜ 4 < length (now s) ⌝ }
     ensures { λ r. ⌜ r ≡ operands 4 (now (s .entry)) ⌝ }
 {
@@ -258,15 +258,16 @@ pub fn string_of(text: &[u8], c: Cmd) -> &[u8]
     piece(text, c.start, c.len)
 }
 
-// The rule of the string of a BEGIN, an extends entry or a reference.
-fn path_rule(tame: bool, op: u8, s: &[u8]) -> bool
-    requires { ⌜ (tame ≡ true → tameText (now s) ≡ true) ⌝ }
-    ensures { λ r. ⌜ r ≡ cond (eqb op begin) (recordPath (now (s .entry))) (leadRule (now (s .entry))) ⌝ }
+// The rule of its own that the string of a command other than BEGIN has.
+pub fn item_rule(tame: bool, op: u8, s: &[u8]) -> bool
+    requires { ⌜ (op ≡ begin → ⊥) × (tame ≡ true → tameText (now s) ≡ true) ⌝ }
+    ensures { λ r. ⌜ r ≡ ownRule op (now (s .entry)) ⌝ }
 {
-    if op == BEGIN {
-        return is_record_path_of(tame, s);
+    match op {
+        INCLUDE_ITEM | EXCLUDE_ITEM => is_pattern_of(tame, s),
+        EXTENDS | REFERENCE => obeys_lead(s),
+        _ => true,
     }
-    obeys_lead(s)
 }
 
 // The rule of its own that a command's string has.
@@ -274,21 +275,19 @@ fn own_rule(tame: bool, op: u8, s: &[u8]) -> bool
     requires { ⌜ (tame ≡ true → tameText (now s) ≡ true) ⌝ }
     ensures { λ r. ⌜ r ≡ ownRule op (now (s .entry)) ⌝ }
 {
-    match op {
-        INCLUDE_ITEM | EXCLUDE_ITEM => is_pattern_of(tame, s),
-        BEGIN | EXTENDS | REFERENCE => path_rule(tame, op, s),
-        _ => true,
+    if op == BEGIN {
+        return is_record_path_of(tame, s);
     }
+    item_rule(tame, op, s)
 }
 
-// Whether a command's string lies in the text and keeps its rules: refusal 4 where not.
-fn good_string(tame: bool, text: &[u8], c: Cmd) -> bool
+// Whether a command's string lies in the text and keeps the rules of all strings.
+pub fn is_held(tame: bool, text: &[u8], c: Cmd) -> bool
     requires { ⌜ (tame ≡ true → tameText (now text) ≡ true) ⌝ }
-    ensures { λ r. ⌜ r ≡ goodString (now (text .entry)) c ⌝ }
+    ensures { λ r. ⌜ r ≡ (leb (c .start + c .len) (length (now (text .entry))) && stringRule (textOf (now (text .entry)) c)) ⌝ }
 {
     let start = c.start;
     let len = c.len;
-    let op = c.op;
     if text.len() < start {
         return false;
     }
@@ -296,9 +295,19 @@ fn good_string(tame: bool, text: &[u8], c: Cmd) -> bool
         return false;
     }
     let s = &text[start..start + len];
-    if !is_string_of(tame, s) {
+    is_string_of(tame, s)
+}
+
+// Whether a command's string lies in the text and keeps its rules: refusal 4 where not.
+fn good_string(tame: bool, text: &[u8], c: Cmd) -> bool
+    requires { ⌜ (tame ≡ true → tameText (now text) ≡ true) ⌝ }
+    ensures { λ r. ⌜ r ≡ goodString (now (text .entry)) c ⌝ }
+{
+    if !is_held(tame, text, c) {
         return false;
     }
+    let op = c.op;
+    let s = string_of(text, c);
     own_rule(tame, op, s)
 }
 
@@ -346,7 +355,7 @@ fn opener_of(op: u8) -> u8
 }
 
 // How many of a command a record may have, of targets a key; 0 where it comes once.
-fn limit_of(op: u8) -> u8
+pub fn limit_of(op: u8) -> u8
     requires { ⌜ op < 21 ⌝ }
     ensures { λ r. ⌜ (r ≡ getD limits op 0) × (r ≤ 64) ⌝ }
 {
@@ -360,7 +369,7 @@ fn limit_of(op: u8) -> u8
 }
 
 // What the command must come after is there. Of the commands before there are counts, of each slot.
-fn is_opened(counts: &[u8], op: u8) -> bool
+pub fn is_opened(counts: &[u8], op: u8) -> bool
     requires { ⌜ (op < 21) × (length (now counts) ≡ 39) ⌝ }
     ensures { λ r. ⌜ r ≡ (eqb (getD openers op 0) 0 || not (eqb (has (now (counts .entry)) (getD openers op 0)) 0)) ⌝ }
 {
@@ -385,7 +394,7 @@ fn is_fresh(op: u8, n: u8) -> bool
 }
 
 // A target comes after its key with only targets between.
-fn does_follow(op: u8, last: u8) -> bool
+pub fn does_follow(op: u8, last: u8) -> bool
     ensures { λ r. ⌜ r ≡ (not (eqb op target) || (eqb last key || eqb last target)) ⌝ }
 {
     if op != TARGET {

@@ -14,6 +14,7 @@ use book::word_at;
 use compare::digest;
 use strings::is_tame;
 use text::from;
+use usual::pass;
 ghost use mathlib.Core.Path.{_≡_};
 ghost use mathlib.Core.Bool.{true};
 ghost use Prim.Native.Nat.{_+_, _<_, _≤_};
@@ -28,6 +29,7 @@ const MOST_COMMANDS: usize = 32768;
 const MOST_TEXT: usize = 65535;
 
 // One record's commands, from its BEGIN on, which stands at base. Before it stand n records, with the starts, lengths and digests of their paths.
+// The tables ks, kl and km are room for the same of its keys.
 pub fn check_record(
     tame: bool,
     part: &[u8],
@@ -37,21 +39,29 @@ pub fn check_record(
     lens: &[usize],
     marks: &[u8],
     n: usize,
+    ks: &mut [usize],
+    kl: &mut [usize],
+    km: &mut [u8],
 ) -> Checked
     requires { ⌜ (0 < length (now part)) × (base + length (now part) ≤ 32768) ⌝ }
     requires { ⌜ (tame ≡ true → tameText (now text) ≡ true) ⌝ }
     requires { ⌜ Table (now text) (now starts) (now lens) n × Marked (now text) (now starts) (now lens) (now marks) n ⌝ }
+    requires { ⌜ (length (now ks) ≡ 32) × ((length (now kl) ≡ 32) × (length (now km) ≡ 32)) ⌝ }
     ensures { λ r. ⌜ CheckedAs (now (part .entry)) base (now (text .entry)) (now (starts .entry)) (now (lens .entry)) n r ⌝ }
 {
     let mut counts = [0u8; 39];
     let mut last: u8 = 0;
-    let mut ks = [0usize; 32];
-    let mut kl = [0usize; 32];
-    let mut km = [0u8; 32];
     let mut m = 0;
     let mut cursor = Cursor { at: 0 };
     loop {
-        let place = base + cursor.at;
+        let at = cursor.at;
+        let to = pass(tame, part, at, text, &mut counts, last);
+        if at < to {
+            last = part[at];
+            cursor = Cursor { at: to };
+            continue;
+        }
+        let place = base + at;
         match cursor.step(part) {
             Step::End => return Checked::Refused(2, place),
             Step::Broken => return Checked::Refused(2, place),
@@ -61,7 +71,7 @@ pub fn check_record(
                 if f != 0 {
                     return Checked::Refused(f, place);
                 }
-                let rows = put_key(text, &mut ks, &mut kl, &mut km, m, c);
+                let rows = put_key(text, ks, kl, km, m, c);
                 if rows == MET {
                     return Checked::Refused(6, place);
                 }
@@ -109,11 +119,26 @@ fn check_records(
         return Judged::No(1, 0);
     }
     let tame = is_known_tame(commands.len(), text);
+    let mut ks = [0usize; 32];
+    let mut kl = [0usize; 32];
+    let mut km = [0u8; 32];
     let mut n = 0;
     let mut at = 0;
     while at < commands.len() {
         let part = from(commands, at);
-        match check_record(tame, part, at, text, starts, lens, marks, n) {
+        match check_record(
+            tame,
+            part,
+            at,
+            text,
+            starts,
+            lens,
+            marks,
+            n,
+            &mut ks,
+            &mut kl,
+            &mut km,
+        ) {
             Checked::Refused(k, p) => return Judged::No(k, p),
             Checked::Closed(to, start, len) => {
                 let path = piece(text, start, len);

@@ -3,4 +3,5 @@ fn main() {
     println!("cargo:rustc-link-search=native={folder}");
     println!("cargo:rustc-link-lib=static=speed");
     println!("cargo:rerun-if-env-changed=PROVED");
+    println!("cargo:rerun-if-changed={folder}/libspeed.a");
 }

@@ -1,0 +1,2 @@
+-- The laws of commands that are taken in passing.
+pub mod Passing
