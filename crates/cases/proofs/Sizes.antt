@@ -3,7 +3,7 @@ use mathlib.Core.List.{[], _∷_, _++_}
 use mathlib.Core.Path.{_≡_, refl}
 use Rattle.text.specs.Bytes.{bytes}
 use Rattle.book.specs.Command as command
-use Rattle.book.proofs.Written.{commands-of, at, alone, _says_, times}
+use Rattle.verdicts.proofs.Written.{commands-of, at, alone, _says_, times}
 use Rattle.cases.specs.Asked.{tell, B, refuses, gives}
 
 -- a record's BEGIN, then bytes up to the size and past it; a record, and text up to the size and past it

@@ -13,7 +13,7 @@ use Rattle.ends.specs.Ends.{extension}
 use Rattle.keys.specs.Keys.{keyPart, isMatch}
 use Rattle.book.specs.Answer.{Answer, refused, given}
 use Rattle.book.specs.Record.{Key}
-use Rattle.book.proofs.Written.{Line, commands-of, text-of, at, extends, include, paths, key}
+use Rattle.verdicts.proofs.Written.{Line, commands-of, text-of, at, extends, include, paths, key}
 use Rattle.tsconfig.specs.Build.{substituted}
 use Rattle.tsconfig.specs.Mapping.{bestKey}
 use Rattle.tsconfig.specs.Parsed.{Parsed}

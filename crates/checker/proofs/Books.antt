@@ -21,7 +21,7 @@ use Rattle.book.specs.Index.{upToEnd, recordAt, beginsOf, Row, AcceptedAs}
 use Rattle.book.specs.State.{texts, Table, Marked}
 use Rattle.compare.specs.Compare.{digestFrom}
 use Rattle.book.specs.Checks.{Held, ClosedAs, CheckedAs}
-use Rattle.book.proofs.Turns.{texts-put, table-put, marked-put}
+use Rattle.verdicts.proofs.Turns.{texts-put, table-put, marked-put}
 
 module _ (commands text : Text) where
   pub size-commands : 32768 < length commands → verdict commands text ≡ refused 1 0

@@ -10,7 +10,7 @@ use borrow.Author.Tests.{eq-eqb, ne-eqb}
 use Rattle.text.specs.Bytes.{Text}
 use Rattle.book.specs.State.{texts, number}
 use Rattle.book.proofs.Steps.{step-moves}
-use Rattle.book.proofs.Turns.{Sofar, turn-on}
+use Rattle.verdicts.proofs.Turns.{Sofar, turn-on}
 use Rattle.usual.specs.Usual.{Passed, still, more}
 
 passed-forth : (part text : Text) (ns : List ℕ) (last at : ℕ) {ns′ : List ℕ} {last′ at′ : ℕ} → Passed part text ns last at ns′ last′ at′ → at ≤ at′

@@ -5,7 +5,7 @@ use mathlib.Core.List.{List, [], _∷_, _++_, map}
 use mathlib.Core.Path.{_≡_, refl}
 use lib.ListN.{length}
 use Rattle.text.specs.Bytes.{Text, bytes, star}
-use Rattle.book.proofs.Written.{Line, _says_, commands-of, text-of, times, at, extends, files, baseUrl, paths, key}
+use Rattle.verdicts.proofs.Written.{Line, _says_, commands-of, text-of, times, at, extends, files, baseUrl, paths, key}
 use Rattle.book.specs.Command as command
 use Rattle.tsconfig.specs.Laid.{laid}
 use Rattle.questions.specs.Questions.{Outcome, tsconfigBuild, tsconfigOwner, tsconfigCandidates, tsconfigTries, returned, output}

@@ -17,7 +17,7 @@ use Rattle.book.specs.Index as index
 use Rattle.book.specs.Index.{AcceptedAs}
 use Rattle.book.specs.Record.{recordPathOf}
 use Rattle.book.specs.Sound.{Sound}
-use Rattle.book.proofs.Accepted.{accepted-sound, all-at}
+use Rattle.verdicts.proofs.Accepted.{accepted-sound, all-at}
 use Rattle.records.proofs.Paths.{table-paths}
 use Rattle.tsconfig.specs.Parsed.{Parsed, parsed, parse}
 use Rattle.tsconfig_resolver.specs.Find.{recordAt, pathsOf, blank}

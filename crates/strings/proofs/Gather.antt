@@ -19,7 +19,7 @@ use Rattle.strings.specs.Scan.{flag}
 -- A byte is 0
 
 -- an or is 0 where both are
-or-none : (a b : ℕ) → eqb (bitOr a b) 0 ≡ eqb a 0 && eqb b 0
+pub or-none : (a b : ℕ) → eqb (bitOr a b) 0 ≡ eqb a 0 && eqb b 0
 or-none a b =
     by-test (eqb a 0)
     (λ e. let z : a ≡ 0 = eqb-true a 0 e in rw (e, z, or-zero-l b))

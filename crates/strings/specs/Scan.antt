@@ -1,15 +1,23 @@
 -- What the loops over a text test at each place: a verdict as a byte; and the rule of a tame text.
 use Prim.Native.Nat.{ℕ}
-use mathlib.Core.Bool.{Bool, true, false, _&&_}
-use Rattle.text.specs.Bytes.{Text, bytes}
+use mathlib.Core.Bool.{Bool, true, false, not, _&&_}
+use lib.Dec.{leb}
+use Rattle.text.specs.Bytes.{Text}
 use Rattle.text.specs.Text.{eachOf}
-use Rattle.strings.specs.Strings.{noneOf, plainByte}
 
 -- a verdict as a byte
 abbrev pub flag : Bool → ℕ
 flag true = 1
 flag false = 0
 
--- a string may have each byte of s, and none is one of `{ } [ ] !`
+-- from one byte to another
+abbrev pub within : ℕ → ℕ → ℕ → Bool
+within low high x = leb low x && leb x high
+
+-- A byte that a string may have and that is none of `{ } [ ] !`. Three ranges say it in few tests: they leave out the space and `|` too.
+abbrev pub tameByte : ℕ → Bool
+tameByte x = within 0x22 0x7E x && (not (within 0x5B 0x5D x) && not (within 0x7B 0x7D x))
+
+-- each byte of s is tame
 unfoldable pub tameText : Text → Bool
-tameText s = eachOf plainByte s && eachOf (noneOf (bytes "{}[]!")) s
+tameText s = eachOf tameByte s

@@ -2,12 +2,12 @@
 // gathers its verdict by an or of bytes and never leaves early: such a loop works on many bytes at a time.
 ghost use mathlib.Core.Path.{_≡_};
 ghost use mathlib.Core.List.{[], _∷_};
-ghost use mathlib.Core.Bool.{true};
+ghost use mathlib.Core.Bool.{true, not};
 ghost use lib.Dec.{eqb};
 ghost use Rattle.text.specs.Bytes.{bytes};
 ghost use Rattle.text.specs.Text.{eachOf};
 ghost use Rattle.strings.specs.Strings.{noneOf, plainByte, stringRule};
-ghost use Rattle.strings.specs.Scan.{flag, tameText};
+ghost use Rattle.strings.specs.Scan.{flag, within, tameByte, tameText};
 
 // The most bytes that a string has.
 const LONGEST: usize = 512;
@@ -15,6 +15,9 @@ const LONGEST: usize = 512;
 const LOWEST: u8 = 0x20;
 
 const HIGHEST: u8 = 0x7E;
+
+// The byte after space and `!`.
+const LOWEST_TAME: u8 = 0x22;
 
 const BACKSLASH: u8 = 0x5C;
 
@@ -122,14 +125,45 @@ pub fn lacks(s: &[u8], a: u8, b: u8, c: u8) -> bool
 // The rules of the strings of one text. Where the text is tame, as most are, each byte that no string or no pattern may have is known to be
 // missing, and only the rest is tested.
 
-// Whether s is tame: a string may have each byte, and none is one of `{ } [ ] !`.
+// 1 where x lies from the one byte to the other, else 0.
+fn between(x: u8, low: u8, high: u8) -> u8
+    ensures { λ r. ⌜ eqb r 0 ≡ not (within low high x) ⌝ }
+{
+    if x < low {
+        return 0;
+    }
+    if high < x {
+        return 0;
+    }
+    1
+}
+
+// 0 for a tame byte, else 1.
+fn wild_byte(x: u8) -> u8
+    ensures { λ r. ⌜ eqb r 0 ≡ tameByte x ⌝ }
+{
+    if x < LOWEST_TAME {
+        return 1;
+    }
+    if HIGHEST < x {
+        return 1;
+    }
+    let bracket = between(x, OPEN_BRACKET, CLOSE_BRACKET);
+    let brace = between(x, OPEN_BRACE, CLOSE_BRACE);
+    bracket | brace
+}
+
+// Whether s is tame.
 pub fn is_tame(s: &[u8]) -> bool
     ensures { λ r. ⌜ r ≡ tameText (now (s .entry)) ⌝ }
 {
-    if !is_plain(s) {
-        return false;
+    let mut bad: u8 = 0;
+    let mut i = 0;
+    while i < s.len() {
+        bad = bad | wild_byte(s[i]);
+        i += 1;
     }
-    lacks_brackets(s)
+    bad == 0
 }
 
 // Whether s is a string, where the text that it is a part of may be known to be tame.

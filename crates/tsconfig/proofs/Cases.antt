@@ -10,7 +10,7 @@ use Rattle.book.specs.declared.Cmd.{Cmd}
 use Rattle.book.specs.Answer.{Answer, refused, given}
 use Rattle.book.specs.Command as command
 use Rattle.book.specs.Book.{verdict}
-use Rattle.book.proofs.Written.{Line, _says_, turns, option, commands-of, text-of, at, files, include, exclude, rootDirs, baseUrl, paths, key}
+use Rattle.verdicts.proofs.Written.{Line, _says_, turns, option, commands-of, text-of, at, files, include, exclude, rootDirs, baseUrl, paths, key}
 use Rattle.tsconfig.specs.Config.{merge}
 use Rattle.tsconfig.specs.Parsed.{Parsed, parsed}
 use Rattle.tsconfig.specs.Build.{Settings, built}

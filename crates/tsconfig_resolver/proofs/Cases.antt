@@ -8,7 +8,7 @@ use Rattle.text.specs.Bytes.{Text, bytes}
 use Rattle.book.specs.declared.Cmd.{Cmd}
 use Rattle.book.specs.Answer.{Answer, refused, given}
 use Rattle.book.specs.Book.{verdict}
-use Rattle.book.proofs.Written.{Line, turns, commands-of, text-of, at, extends, references, files, include}
+use Rattle.verdicts.proofs.Written.{Line, turns, commands-of, text-of, at, extends, references, files, include}
 use Rattle.tsconfig.specs.Parsed.{Parsed, parsed}
 use Rattle.tsconfig.specs.Listing.{listing}
 use Rattle.tsconfig_resolver.specs.Line.{line}

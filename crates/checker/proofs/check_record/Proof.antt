@@ -2,7 +2,7 @@ use mathlib.Core.Path.{refl, sym, _∙_}
 use Prim.Native.Nat.{_-_}
 use lib.ListN.{length}
 use native.Mathlib.Omega.{arith}
-use Rattle.book.proofs.Turns.{Sofar, sofar-none, turn-broken, turn-end, turn-refused, turn-met, turn-long, turn-closed, turn-on, turn-less, turn-place, byte-known, slot-small, slot-room, key-room, clear-on, rows-on}
+use Rattle.verdicts.proofs.Turns.{Sofar, sofar-none, turn-broken, turn-end, turn-refused, turn-met, turn-long, turn-closed, turn-on, turn-less, turn-place, byte-known, slot-small, slot-room, key-room, clear-on, rows-on}
 use Rattle.checker.proofs.Passes.{moved-on, stood}
 use borrow.Author.Needs.{needs}
 use Rattle.checker.proofs.check_record.Statement.{statement}

@@ -1,20 +1,54 @@
-use borrow.Author.Tests.{not-true, not-false}
-use Rattle.strings.proofs.Tame.{tame-not, tame-on}
+use Rattle.strings.proofs.Tame.{tame-told}
+use Prim.Native.Nat.{_-_, _≤_}
+use mathlib.Core.Path.{refl}
+use lib.ListN.{length}
+use native.Mathlib.Omega.{arith}
+use Rattle.strings.specs.Scan.{tameByte}
+use Rattle.strings.proofs.Gather.{Gathered, each, each-step, each-end}
 use borrow.Author.Needs.{needs}
 use Rattle.strings.proofs.is_tame.Statement.{statement}
 use Rattle.strings.proofs.is_tame.Tie as tie
+use Rattle.strings.proofs.is_tame.Reads as reads
+use Rattle.strings.proofs.is_tame.Lts as lts
+use Rattle.strings.proofs.wild_byte.Reads as wild-byte-reads
 
-is-plain-requires : tie.Need-is-plain-requires
-is-plain-requires c κs = search needs
+abbrev Inv-loop : tie.InvT-loop
+Inv-loop s bad₀ i₀ bad i = (i ≤ length s) × Gathered (each tameByte s) i bad
 
-returns : tie.Need-returns
-returns c = tame-not _ _ (c .before .is-plain .ensures) (not-true _ (c .if1 .taken))
+abbrev μ-loop : tie.MeasureT-loop
+μ-loop s bad₀ i₀ bad i = length s - i
 
-lacks-brackets-requires : tie.Need-lacks-brackets-requires
-lacks-brackets-requires c κs = search needs
+loop-holds : tie.Need-loop-holds Inv-loop μ-loop
+loop-holds c = (omega arith, refl)
 
-returns-2 : tie.Need-returns-2
-returns-2 c = tame-on _ _ (c .before .before .is-plain .ensures) (not-false _ (c .before .if1 .left)) _ (c .lacks-brackets .ensures)
+shared-slice-read-wild-byte : tie.Need-shared-slice-read-wild-byte Inv-loop μ-loop
+shared-slice-read-wild-byte c = search needs
+
+wild-byte-requires : tie.Need-wild-byte-requires Inv-loop μ-loop
+wild-byte-requires c κs = search needs
+
+add-i : tie.Need-add-i Inv-loop μ-loop
+add-i c = search needs
+
+loop-less : tie.Need-loop-less Inv-loop μ-loop
+loop-less c = search needs
+
+loop-again : tie.Need-loop-again Inv-loop μ-loop
+loop-again c = (omega arith, each-step tameByte (c .before .before .before .before .before .args .s .now) (c .before .before .before .loop .i) (c .before .before .before .loop .bad) (c .before .before .before .loop .inv .1) (c .wild-byte .result) (c .before .before .loop-test .taken) (c .wild-byte .ensures))
+
+returns : tie.Need-returns Inv-loop μ-loop
+returns c = tame-told _ _ (each-end tameByte (c .before .before .before .args .s .now) (c .before .loop .i) (c .before .loop .bad) (c .before .loop .inv .1) (c .loop-test .left))
 
 pub is-tame-spec : {M : Type 1} → statement M
-is-tame-spec = tie.close (tie.spec is-plain-requires returns lacks-brackets-requires returns-2)
+is-tame-spec =
+    tie.close
+    (tie.spec
+    Inv-loop
+    μ-loop
+    loop-holds
+    shared-slice-read-wild-byte
+    wild-byte-requires
+    add-i
+    loop-less
+    loop-again
+    returns)

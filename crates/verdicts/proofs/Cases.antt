@@ -7,21 +7,21 @@ use mathlib.Core.Bool.{Bool, true, false}
 use mathlib.Core.Option.{Option, some, none}
 use lib.ListN.{length}
 use Rattle.text.specs.Bytes.{Text, bytes}
 use Rattle.book.specs.declared.Cmd.{Cmd}
 use Rattle.book.specs.Answer.{Answer, refused, given}
 use Rattle.book.specs.Command as command
 use Rattle.book.specs.Command.{Decoded, decode}
 use Rattle.strings.specs.Strings.{stringRule}
 use Rattle.path_rules.specs.Paths.{recordPath, leadRule, askedPath}
 use Rattle.patterns.specs.Patterns.{patternRule}
 use Rattle.book.specs.Record.{Key, strings, single, listed, mapping, optionOf, flagOf, recordPathOf}
 use Rattle.book.specs.Book.{verdict}
-use Rattle.book.proofs.Written.{Line, alone, _says_, turns, option, raw, commands-of, text-of, times}
+use Rattle.verdicts.proofs.Written.{Line, alone, _says_, turns, option, raw, commands-of, text-of, times}
 -- what the answers are computed with
 use Rattle.book.specs.Book.{next, finish, judge}
 use Rattle.book.specs.Command.{widthOf, operands, decodeAt}
 use Rattle.book.specs.Record.{only, firstOf, targetsOf, keysOf}
 use Rattle.book.specs.Rules.{textOf, slot, tally, inRange, opened, fresh, follows, inOrder, tooMany, ownRule, goodString, pathOf, keysOf as keysOf-in-Rules, clash, givenBefore, faultOf, fault}
 use Rattle.components.specs.Components.{onFirst, split, pieceOf, starts}
 use Rattle.path.specs.Path.{normal}
 use Rattle.patterns.specs.Patterns.{afterConfigDir, twoStars, patternText}

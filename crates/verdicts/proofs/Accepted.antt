@@ -10,16 +10,16 @@ use lib.Dec.{eqb, leb, ltb}
 use borrow.Author.Tests.{ne-eqb, eqb-true, leb-true, leb-false, le-ltb}
 use Rattle.text.specs.Bytes.{Text}
 use Rattle.text.proofs.Picks.{by-test}
 use Rattle.book.specs.declared.Cmd.{Cmd}
 use Rattle.book.specs.Answer.{refused, given, unless}
 use Rattle.book.specs.Command.{Decoded, ended, broken, command, decode, begin, key, target, flag, textOption, end}
 use Rattle.book.specs.Rules.{Before, slot, tally, lastOp, limits, tooMany, fault, pathOf, keysOf}
 use Rattle.book.specs.Record.{is, only}
 use Rattle.book.specs.Book.{judge, next, finish, nothing, verdict}
 use Rattle.book.specs.Sound.{All, nil, cons, Good, Sound}
 use Rattle.book.specs.State.{number}
 use Rattle.book.proofs.Keeps.{ranged}
-use Rattle.book.proofs.Turns.{clear}
+use Rattle.verdicts.proofs.Turns.{clear}
 
 module _ {A : Type 0} (P : A → Type 0) where
   all-onto : (l r : List A) → All P l → All P r → All P (reverseAux l r)
