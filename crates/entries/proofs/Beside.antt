@@ -14,13 +14,15 @@ use Rattle.text.specs.declared.Found.{Found}
 use Rattle.text.specs.declared.Found.the-variants.{At, Nothing}
 use Rattle.text.proofs.Picks.{by-test}
 use Rattle.components.specs.Components.{onFirst, split, pieceOf}
-use Rattle.components.specs.declared.Piece.the-variants.{Skip, Up, Name}
+use Rattle.components.specs.declared.Piece.the-variants.{Name}
 use Rattle.components.proofs.Pieces.{piece-name, pieces-one}
 use Rattle.join.specs.Join.{pushOf, stepBy, stepOf, walkOf, normalizeWith}
 use Rattle.book.specs.Find.{find, locate}
 use Rattle.records.specs.Items.{foundNumber}
 use Rattle.records.proofs.Paths.{locate-own}
 use Rattle.entries.specs.Codes.{isNothing, isBeside}
+
+-- the tests in their order
 
 pub beside-short : (s : Text) → length s < 3 → false ≡ isBeside s
 unfolding isBeside
