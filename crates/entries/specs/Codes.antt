@@ -2,11 +2,14 @@
 use Prim.Native.Nat.{ℕ, _≤_}
 use mathlib.Core.Path.{_≡_}
 use mathlib.Core.List.{List, [], _∷_, map}
-use mathlib.Core.Bool.{cond, _||_}
+use mathlib.Core.Bool.{Bool, true, false, not, cond, _&&_, _||_}
 use mathlib.Core.Option.{Option, some, none}
 use lib.Dec.{eqb, ltb}
 use lib.ListN.{length, take}
 use Rattle.text.specs.Bytes.{Text, slash, dot}
+use Rattle.text.specs.Text.{find}
+use Rattle.text.specs.declared.Found.{Found}
+use Rattle.text.specs.declared.Found.the-variants.{At, Nothing}
 use Rattle.join.specs.Join.{normalizeWith}
 use Rattle.book.specs.Find.{locate}
 use Rattle.book.specs.Command.{extends}
@@ -27,6 +30,18 @@ bareCode = 254
 -- an entry by its code: a record's number, of n, or what it is else
 unfoldable pub entryOf : ℕ → ℕ → Entry
 entryOf n v = cond (ltb v n) (leads v) (cond (eqb v missingCode) missing (cond (eqb v bareCode) bare empty))
+
+-- nothing was found
+abbrev pub isNothing : Found → Bool
+isNothing (At i) = false
+isNothing Nothing = true
+
+-- the path is `./` and one name that does not begin with a dot
+unfoldable pub isBeside : Text → Bool
+isBeside [] = false
+isBeside (a ∷ []) = false
+isBeside (a ∷ b ∷ []) = false
+isBeside (a ∷ b ∷ c ∷ s) = eqb a dot && (eqb b slash && (not (eqb c dot) && isNothing (find slash (c ∷ s))))
 
 -- what an extends entry leads to, from a directory and among the paths
 unfoldable pub entryAt : List Text → Text → Text → Entry

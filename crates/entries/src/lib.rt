@@ -6,26 +6,30 @@ use ends::parent;
 use join::normalize_with;
 use records::Item;
 use records::locate;
+use records::named_in;
 use records::next_item;
 use rows::own_row;
 use text::DOT;
 use text::Found;
 use text::SLASH;
+use text::find_byte;
+use text::from;
 use text::upto;
 ghost use mathlib.Core.Path.{_≡_};
 ghost use mathlib.Core.List.{[], _∷_, map};
-ghost use mathlib.Core.Bool.{_||_};
+ghost use mathlib.Core.Bool.{_||_, cond};
+ghost use mathlib.Core.Option.{none};
 ghost use Prim.Native.Nat.{_+_, _≤_, _<_};
 ghost use lib.Dec.{eqb};
 ghost use lib.ListN.{length, getD, take, drop};
 ghost use Rattle.text.specs.Bytes.{slash, dot};
 ghost use Rattle.ends.specs.Ends.{parentOf};
-ghost use Rattle.join.specs.Join.{normalizeWith};
-ghost use Rattle.book.specs.Find.{locate as locateOf};
+ghost use Rattle.join.specs.Join.{normalizeWith, pushOf};
+ghost use Rattle.book.specs.Find.{find, locate as locateOf};
 ghost use Rattle.records.specs.Items.{pathTable, foundNumber};
 ghost use Rattle.tsconfig_resolver.specs.Load.{unread as unreadOf};
 ghost use Rattle.rows.specs.Records.{recordsOf};
-ghost use Rattle.entries.specs.Codes.{entryOf, entryAt, refusalOf, Codes, EntriesPre};
+ghost use Rattle.entries.specs.Codes.{isBeside, entryOf, entryAt, refusalOf, Codes, EntriesPre};
 ghost use Rattle.entries.specs.Opens.{Opens, OpenPre};
 
 // The codes of the extends entries that lead to no record: none is found, it starts with neither `/` nor `.`, or it is empty.
@@ -39,6 +43,47 @@ pub const EMPTY: u8 = 255;
 pub enum Opening {
     Refused(u32),
     Ready(usize),
+}
+
+// Whether s is `./` and one name that does not begin with a dot.
+fn is_beside(s: &[u8]) -> bool
+    ensures { λ r. ⌜ r ≡ isBeside (now (s .entry)) ⌝ }
+{
+    if s.len() < 3 {
+        return false;
+    }
+    if s[0] != DOT {
+        return false;
+    }
+    if s[1] != SLASH {
+        return false;
+    }
+    if s[2] == DOT {
+        return false;
+    }
+    match find_byte(from(s, 2), SLASH) {
+        Found::Nothing => return true,
+        Found::At(_) => return false,
+    }
+}
+
+// The record, of n, that a path of `./` and one name means in a directory. The two are not joined for it.
+fn find_beside(
+    text: &[u8],
+    starts: &[usize],
+    lens: &[usize],
+    n: usize,
+    dir: &[u8],
+    s: &[u8],
+) -> Found
+    requires { ⌜ (n ≤ length (now starts)) × (n ≤ length (now lens)) ⌝ }
+    ensures { λ r. ⌜ foundNumber r ≡ cond (isBeside (now (s .entry))) (find (pushOf (now (dir .entry)) (drop 2 (now (s .entry)))) (pathTable (now (text .entry)) (now (starts .entry)) (now (lens .entry)) n)) none ⌝ }
+{
+    if !is_beside(s) {
+        return Found::Nothing;
+    }
+    let name = from(s, 2);
+    named_in(text, starts, lens, n, dir, name)
 }
 
 // The record, of n, that a path read from a directory means, where the two are short: what is written to is small.
@@ -71,6 +116,11 @@ pub fn find_meant(
     requires { ⌜ (n ≤ length (now starts)) × ((n ≤ length (now lens)) × ((length (now dir) ≤ 512) × (length (now s) ≤ 512))) ⌝ }
     ensures { λ r. ⌜ foundNumber r ≡ locateOf (pathTable (now (text .entry)) (now (starts .entry)) (now (lens .entry)) n) (normalizeWith (now (dir .entry)) (now (s .entry))) ⌝ }
 {
+    let beside = find_beside(text, starts, lens, n, dir, s);
+    match beside {
+        Found::At(i) => return Found::At(i),
+        Found::Nothing => {}
+    }
     if dir.len() + s.len() < 128 {
         return find_short(text, starts, lens, n, dir, s);
     }

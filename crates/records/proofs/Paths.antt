@@ -1,13 +1,13 @@
 -- The records by their paths: a turn of the loops over the table, and each way out. Assumes nothing.
 use mathlib.Core.Path.{_≡_, refl, sym, ap, ap₂, _∙_}
-use mathlib.Core.List.{List, [], _∷_, _++_, map, append-nil}
-use mathlib.Core.Bool.{Bool, true, false, _&&_, cond, and-false, and-true}
+use mathlib.Core.List.{List, [], _∷_, _++_, map, append-assoc, append-nil}
+use mathlib.Core.Bool.{Bool, true, false, _&&_, cond, and-false, and-true, true≢false}
 use mathlib.Core.Option.{Option, some, none, Option·map}
 use Prim.Native.Nat.{ℕ, zero, suc, _+_, _-_, _≤_, _<_}
 use native.Mathlib.Omega.{arith}
 use native.Mathlib.Numerals.{add-one}
 use native.Mathlib.Nat.{add-zero}
-use lib.ListN.{length, getD, take, drop, length-append, length-take, drop-of-length-le}
+use lib.ListN.{length, getD, take, drop, length-append, length-take, drop-of-length-le, List·getD-append}
 use lib.Seq.{drop-cons, getD-take, getD-drop}
 use lib.Dec.{eqb, leb}
 use borrow.Author.Count.{below-more}
@@ -26,22 +26,27 @@ use Rattle.book.specs.Record.{recordPathOf}
 use Rattle.book.specs.Index.{AcceptedAs}
 use Rattle.book.specs.Find.{find, isDir, configPath, locate}
 use Rattle.records.specs.Items.{rowsFrom, pathTable, foundNumber}
-use Rattle.records.specs.Looks.{isNothing, Passed}
+use Rattle.records.specs.Looks.{Unlike, Passed}
 
 -- Comparing with p and then a tail
 
-same-joined : (p t q : Text) → length p ≤ length q → sameText (p ++ t) q ≡ (prefixOf p q && sameText t (drop (length p) q))
+-- texts of one length are the same where one is a prefix of the other
+same-whole : (w q : Text) → length w ≡ length q → sameText w q ≡ prefixOf w q
 unfolding sameText prefixOf
-same-joined [] t q h = refl
-same-joined (x ∷ p) t [] h = absurd (omega (arith, h))
-same-joined (x ∷ p) t (y ∷ q) h = rw (same-joined p t q (omega arith)) (assoc (eqb x y) (eqb y x) (flip x y) (prefixOf p q) (sameText t (drop (length p) q)))
+same-whole [] [] h = refl
+same-whole [] (y ∷ q) h = absurd (omega (arith, h))
+same-whole (x ∷ w) [] h = absurd (omega (arith, h))
+same-whole (x ∷ w) (y ∷ q) h = ap₂ (λ (a b : Bool). a && b) (flip x y) (same-whole w q (omega (arith, h)))
   where
     flip : (x y : ℕ) → eqb x y ≡ eqb y x
     flip x y = by-test (eqb x y) (λ t. let e : x ≡ y = eqb-true x y t in t ∙ sym (eq-eqb y x (sym e))) (λ f. f ∙ sym (ne-eqb y x (λ e. eqb-false x y f (sym e))))
 
-    assoc : (a b : Bool) → a ≡ b → (c d : Bool) → (a && (c && d)) ≡ ((b && c) && d)
-    assoc true b e c d = rw (← e) refl
-    assoc false b e c d = rw (← e) refl
+-- a text that does not begin with w is another
+same-other : (w q : Text) → prefixOf w q ≡ false → sameText w q ≡ false
+same-other w q f =
+    by-test (eqb (length w) (length q))
+    (λ t. same-whole w q (eqb-true (length w) (length q) t) ∙ f)
+    (λ t. same-length w q (eqb-false (length w) (length q) t))
 
 prefix-joined : (p t q : Text) → prefixOf (p ++ t) q ≡ (prefixOf p q && prefixOf t (drop (length p) q))
 unfolding prefixOf
@@ -53,59 +58,39 @@ prefix-joined (x ∷ p) t (y ∷ q) = rw (prefix-joined p t q) (assoc (eqb y x) 
     assoc true c d = refl
     assoc false c d = refl
 
--- a tail, after its slash or with none
+pub slash-short : (apart : Bool) → length (slashIf apart) ≤ 1
+slash-short true = omega arith
+slash-short false = omega arith
 
-module _ (q tail : Text) (apart : Bool) where
-  pub tail-bare : apart ≡ false → (r : Bool) → r ≡ sameText tail q → r ≡ sameText (slashIf apart ++ tail) q
-  tail-bare f r e = rw f e
+-- the tests in their order, where q is as long as p, the slash and the tail
 
-  module _ (t : apart ≡ true) where
-    pub tail-none : length q ≡ 0 → false ≡ sameText (slashIf apart ++ tail) q
-    unfolding sameText
-    tail-none h = rw t (go q h)
-      where
-        go : (q : Text) → length q ≡ 0 → false ≡ sameText (slash ∷ tail) q
-        go [] h = refl
-        go (y ∷ q) h = absurd (omega (arith, h))
+module _ (p tail q : Text) (apart : Bool) (m : ℕ) (e : m ≡ length (slashIf apart)) where
+  whole-length : length (p ++ (slashIf apart ++ tail)) ≡ (length p + m) + length tail
+  whole-length = omega (arith, e, length-append p (slashIf apart ++ tail), length-append (slashIf apart) tail)
 
-    pub tail-other : 0 < length q → (getD q 0 0 ≡ slash → ⊥) → false ≡ sameText (slashIf apart ++ tail) q
-    unfolding sameText
-    tail-other h n = rw t (go q h n)
-      where
-        go : (q : Text) → 0 < length q → (getD q 0 0 ≡ slash → ⊥) → false ≡ sameText (slash ∷ tail) q
-        go [] h n = absurd (omega (arith, h))
-        go (y ∷ q) h n = rw (ne-eqb slash y (λ e. n (sym e))) refl
+  pub joined-short : length q < length p + m → false ≡ sameText (p ++ (slashIf apart ++ tail)) q
+  joined-short h = sym (same-length (p ++ (slashIf apart ++ tail)) q (λ l. absurd (omega (arith, h, l, whole-length))))
 
-    pub tail-apart : 0 < length q → getD q 0 0 ≡ slash → (rest : Text) → rest ≡ drop 1 q → (r : Bool) → r ≡ sameText tail rest → r ≡ sameText (slashIf apart ++ tail) q
-    unfolding sameText
-    tail-apart h y rest d r e = rw t (go q h y (e ∙ ap (sameText tail) d))
-      where
-        go : (q : Text) → 0 < length q → getD q 0 0 ≡ slash → r ≡ sameText tail (drop 1 q) → r ≡ sameText (slash ∷ tail) q
-        go [] h y e = absurd (omega (arith, h))
-        go (y ∷ q) h i e = rw (eq-eqb slash y (sym i)) e
+  module _ (h : length p + m ≤ length q) where
+    pub joined-length : (length q - (length p + m) ≡ length tail → ⊥) → false ≡ sameText (p ++ (slashIf apart ++ tail)) q
+    joined-length n = sym (same-length (p ++ (slashIf apart ++ tail)) q (λ l. n (omega (arith, h, l, whole-length))))
 
-module _ (p t q : Text) where
-  joined-short : length q < length p → sameText (p ++ t) q ≡ false
-  joined-short h = same-length (p ++ t) q (λ e. absurd (omega (arith, e, h, length-append p t)))
+    module _ (l : length q - (length p + m) ≡ length tail) (rest : Text) (d : rest ≡ drop (length p + m) q) (b : Bool) (f : b ≡ prefixOf tail rest) where
+      parts : sameText (p ++ (slashIf apart ++ tail)) q ≡ (prefixOf (p ++ (slashIf apart ++ [])) q && b)
+      parts =
+          let z : length (p ++ (slashIf apart ++ [])) ≡ length p + m = omega (arith, e, length-append p (slashIf apart ++ []), length-append (slashIf apart) []) in
+          let y : p ++ (slashIf apart ++ tail) ≡ (p ++ (slashIf apart ++ [])) ++ tail = ap (λ (s : Text). p ++ (s ++ tail)) (sym (append-nil (slashIf apart))) ∙ sym (append-assoc p (slashIf apart ++ []) tail) in
+          same-whole (p ++ (slashIf apart ++ tail)) q (omega (arith, h, l, whole-length))
+          ∙ ap (λ (w : Text). prefixOf w q) y
+          ∙ prefix-joined (p ++ (slashIf apart ++ [])) tail q
+          ∙ ap (λ (s : Text). prefixOf (p ++ (slashIf apart ++ [])) q && prefixOf tail s) (ap (λ (k : ℕ). drop k q) z ∙ sym d)
+          ∙ ap (λ (x : Bool). prefixOf (p ++ (slashIf apart ++ [])) q && x) (sym f)
 
-  pub differs-short : length q < length p → false ≡ sameText (p ++ t) q
-  differs-short h = sym (joined-short h)
+      pub joined-other : b ≡ false → false ≡ sameText (p ++ (slashIf apart ++ tail)) q
+      joined-other g = sym (parts ∙ ap (λ (x : Bool). prefixOf (p ++ (slashIf apart ++ [])) q && x) g ∙ and-false (prefixOf (p ++ (slashIf apart ++ [])) q))
 
-  joined-other : prefixOf p q ≡ false → sameText (p ++ t) q ≡ false
-  joined-other f =
-      by-test (leb (length p) (length q))
-      (λ h. same-joined p t q (leb-true (length p) (length q) h) ∙ ap (λ (x : Bool). x && sameText t (drop (length p) q)) f)
-      (λ h. joined-short (leb-false (length p) (length q) h))
-
-  module _ (h : length p ≤ length q) (rest : Text) (d : rest ≡ drop (length p) q) (b : Bool) (e : b ≡ sameText t rest) where
-    tail-is : sameText (p ++ t) q ≡ (prefixOf p q && b)
-    tail-is = same-joined p t q h ∙ ap (λ (x : Bool). prefixOf p q && x) (ap (sameText t) (sym d) ∙ sym e)
-
-    pub differs-tail : b ≡ false → false ≡ sameText (p ++ t) q
-    differs-tail f = sym (tail-is ∙ ap (λ (x : Bool). prefixOf p q && x) f ∙ and-false (prefixOf p q))
-
-    pub differs-front : b ≡ true → (o : Found) → isNothing o ≡ prefixOf p q → isNothing o ≡ sameText (p ++ t) q
-    differs-front y o i = i ∙ sym (tail-is ∙ ap (λ (x : Bool). prefixOf p q && x) y ∙ and-true (prefixOf p q))
+      pub joined-inside : b ≡ true → (r : Bool) → r ≡ prefixOf (p ++ (slashIf apart ++ [])) q → r ≡ sameText (p ++ (slashIf apart ++ tail)) q
+      joined-inside t r i = i ∙ sym (parts ∙ ap (λ (x : Bool). prefixOf (p ++ (slashIf apart ++ [])) q && x) t ∙ and-true (prefixOf (p ++ (slashIf apart ++ [])) q))
 
 -- a path that begins with p, and then with a slash
 
@@ -130,26 +115,82 @@ module _ (q p : Text) (apart b : Bool) (e : b ≡ prefixOf p q) where
       unfolding prefixOf
       inside-slash h r i = i ∙ (rw (a, drop-cons q (length p) 0 h) (sym (and-true (eqb (getD q (length p) 0) slash)))) ∙ left
 
--- A row whose byte k is another than that of p
+-- Rows whose byte k is another than x, or whose byte m is another than y
 
-module _ (text p : Text) (starts : List ℕ) (n i : ℕ) where
-  pub passed-none : i ≤ n → Passed text starts n p i i
+pub agrees-not : (a x : ℕ) (b : Bool) → (a ≡ x → ⊥) → false ≡ (eqb a x && b)
+agrees-not a x b n = sym (rw (ne-eqb a x n) refl)
+
+pub agrees-then : (a x : ℕ) (b : Bool) → a ≡ x → b ≡ (eqb a x && b)
+agrees-then a x b e = sym (rw (eq-eqb a x e) refl)
+
+module _ (text : Text) (starts : List ℕ) (n x k y m i : ℕ) where
+  pub unlike-none : i ≤ n → Unlike text starts n x k y m i i
+  unlike-none h = record { onward = omega arith; within = h; other = λ j h l e f. absurd (omega (arith, h, l)) }
+
+  pub unlike-on :
+      (j : ℕ) → Unlike text starts n x k y m i j → j < n → (b : Bool) → b ≡ (eqb (getD text (getD starts j 0 + k) 0) x && eqb (getD text (getD starts j 0 + m) 0) y) → b ≡ false → Unlike text starts n x k y m i (j + 1)
+  unlike-on j a l b d f =
+      record {
+        onward = omega (arith, a .onward);
+        within = omega (arith, l);
+        other =
+            below-more (λ r. i ≤ r → getD text (getD starts r 0 + k) 0 ≡ x → getD text (getD starts r 0 + m) 0 ≡ y → ⊥) j (a .other)
+            (λ h e g. true≢false (sym (sym f ∙ d ∙ (rw (eq-eqb _ x e, eq-eqb _ y g) refl))));
+      }
+
+-- begin with no text that has these bytes
+
+module _ (text w : Text) (starts : List ℕ) (n i : ℕ) where
+  pub passed-none : i ≤ n → Passed text starts n w i i
   passed-none h = record { onward = omega arith; within = h; other = λ j h l len. absurd (omega (arith, h, l)) }
 
-  module _ (k : ℕ) (h : k < length p) where
-    begins-other : (start : ℕ) → (getD text (start + k) 0 ≡ getD p k 0 → ⊥) → (len : ℕ) → prefixOf p (take len (drop start text)) ≡ false
-    begins-other start d len =
-        by-test (leb len k)
-        (λ t. sym (prefix-short p (take len (drop start text)) (omega (arith, leb-true len k t, length-take len (drop start text)))))
-        (λ f. prefix-differs p (take len (drop start text)) k h (λ e. d (sym (getD-take len (drop start text) k 0 (leb-false len k f) ∙ getD-drop start text k 0) ∙ e)))
+  begins-other : (x k : ℕ) → k < length w → getD w k 0 ≡ x → (start : ℕ) → (getD text (start + k) 0 ≡ x → ⊥) → (len : ℕ) → prefixOf w (take len (drop start text)) ≡ false
+  begins-other x k h y start d len =
+      by-test (leb len k)
+      (λ t. sym (prefix-short w (take len (drop start text)) (omega (arith, leb-true len k t, length-take len (drop start text)))))
+      (λ f. prefix-differs w (take len (drop start text)) k h (λ e. d (sym (getD-take len (drop start text) k 0 (leb-false len k f) ∙ getD-drop start text k 0) ∙ e ∙ y)))
 
-    pub passed-on : (j : ℕ) → Passed text starts n p i j → j < n → (getD text (getD starts j 0 + k) 0 ≡ getD p k 0 → ⊥) → Passed text starts n p i (j + 1)
-    passed-on j a l d =
-        record {
-          onward = omega (arith, a .onward);
-          within = omega (arith, l);
-          other = below-more (λ m. i ≤ m → (len : ℕ) → prefixOf p (take len (drop (getD starts m 0) text)) ≡ false) j (a .other) (λ m. begins-other (getD starts j 0) d);
-        }
+  passed-unlike : (x k y m : ℕ) → k < length w → getD w k 0 ≡ x → m < length w → getD w m 0 ≡ y → (r : ℕ) → Unlike text starts n x k y m i r → Passed text starts n w i r
+  passed-unlike x k y m h e l f r a =
+      record {
+        onward = a .onward;
+        within = a .within;
+        other = λ j b c.
+            by-test (eqb (getD text (getD starts j 0 + k) 0) x)
+            (λ t. begins-other y m l f (getD starts j 0) (a .other j b c (eqb-true (getD text (getD starts j 0 + k) 0) x t)))
+            (λ u. begins-other x k h e (getD starts j 0) (eqb-false (getD text (getD starts j 0 + k) 0) x u));
+      }
+
+-- the bytes of p and then the tail, after a slash where it is to stand apart
+
+byte-after : (p t : Text) (j : ℕ) → getD (p ++ t) (length p + j) 0 ≡ getD t j 0
+byte-after [] t j = let z : 0 + j ≡ j = omega arith in ap (λ (m : ℕ). getD t m 0) z
+byte-after (x ∷ p) t j = let z : suc (length p) + j ≡ suc (length p + j) = omega arith in ap (λ (m : ℕ). getD (x ∷ (p ++ t)) m 0) z ∙ byte-after p t j
+
+module _ (text p tail : Text) (apart : Bool) (starts : List ℕ) (n i k r : ℕ) where
+  pub passed-front : k < length p → (m : ℕ) → m ≡ k - 1 → Unlike text starts n (getD p k 0) k (getD p m 0) m i r → Passed text starts n (p ++ (slashIf apart ++ tail)) i r
+  passed-front h m e a =
+      passed-unlike text (p ++ (slashIf apart ++ tail)) starts n i (getD p k 0) k (getD p m 0) m
+      (within k h) (List·getD-append p (slashIf apart ++ tail) 0 k h)
+      (within m (omega (arith, e, h))) (List·getD-append p (slashIf apart ++ tail) 0 m (omega (arith, e, h)))
+      r a
+    where
+      within : (j : ℕ) → j < length p → j < length (p ++ (slashIf apart ++ tail))
+      within j l = omega (arith, l, length-append p (slashIf apart ++ tail))
+
+  module _ (s : ℕ) (e : s ≡ length (slashIf apart)) where
+    in-tail : (j b : ℕ) → b ≡ (length p + s) + j → j < length tail → (b < length (p ++ (slashIf apart ++ tail))) × (getD (p ++ (slashIf apart ++ tail)) b 0 ≡ getD tail j 0)
+    in-tail j b d l =
+        let z : length p + (length (slashIf apart) + j) ≡ b = omega (arith, e, d) in (
+          omega (arith, d, e, l, length-append p (slashIf apart ++ tail), length-append (slashIf apart) tail),
+          ap (λ (m : ℕ). getD (p ++ (slashIf apart ++ tail)) m 0) (sym z) ∙ byte-after p (slashIf apart ++ tail) (length (slashIf apart) + j) ∙ byte-after (slashIf apart) tail j,
+        )
+
+    pub passed-tail : length p + s ≤ k → (j : ℕ) → j ≡ k - (length p + s) → j < length tail → (m : ℕ) → m ≡ j - 1 → Unlike text starts n (getD tail j 0) k (getD tail m 0) ((length p + s) + m) i r → Passed text starts n (p ++ (slashIf apart ++ tail)) i r
+    passed-tail h j d l m g a =
+        let x = in-tail j k (omega (arith, h, d)) l in
+        let y = in-tail m ((length p + s) + m) (omega arith) (omega (arith, g, l)) in
+        passed-unlike text (p ++ (slashIf apart ++ tail)) starts n i (getD tail j 0) k (getD tail m 0) ((length p + s) + m) (x .0) (x .1) (y .0) (y .1) r a
 
 -- The first of the table's rows
 
@@ -187,57 +228,60 @@ module _ (text : Text) (starts lens : List ℕ) (n : ℕ) where
         let z : n - i ≡ suc (n - (i + 1)) = omega arith in
         ap (rowsFrom text starts lens i) z ∙ ap₂ (λ (x : Text) (j : ℕ). x ∷ rowsFrom text starts lens j (n - (i + 1))) (sym e) (sym (add-one i))
 
-  -- rows that do not begin with p are passed over by a search that skips each of them
-  module _ {X : Type 0} (f : ℕ → List Text → X) (p : Text) (skips : (i : ℕ) (q : Text) (qs : List Text) → prefixOf p q ≡ false → f i (q ∷ qs) ≡ f (suc i) qs) where
-    past : (d i r : ℕ) → i + d ≡ r → Passed text starts n p i r → f i (rest i) ≡ f r (rest r)
-    past zero i r e a = let z : i ≡ r = omega arith in ap (λ (j : ℕ). f j (rest j)) z
-    past (suc d) i r e a =
-        ap (f i) (rest-row i (omega (arith, e, a .within)) (take (getD lens i 0) (drop (getD starts i 0) text)) refl)
-        ∙ skips i _ _ (a .other i (omega (arith, e)) (omega arith) (getD lens i 0))
-        ∙ ap (λ (j : ℕ). f j (rest (i + 1))) (sym (add-one i))
-        ∙ past d (i + 1) r (omega (arith, e)) (record { onward = omega (arith, e); within = a .within; other = λ j h l. a .other j h (omega (arith, l)) })
+  module _ (w : Text) where
+    -- rows that do not begin with w are passed over by a search that skips each of them
+    module _ {X : Type 0} (f : ℕ → List Text → X) (skips : (i : ℕ) (q : Text) (qs : List Text) → prefixOf w q ≡ false → f i (q ∷ qs) ≡ f (suc i) qs) where
+      past : (d i r : ℕ) → i + d ≡ r → Passed text starts n w i r → f i (rest i) ≡ f r (rest r)
+      past zero i r e a = let z : i ≡ r = omega arith in ap (λ (j : ℕ). f j (rest j)) z
+      past (suc d) i r e a =
+          ap (f i) (rest-row i (omega (arith, e, a .within)) (take (getD lens i 0) (drop (getD starts i 0) text)) refl)
+          ∙ skips i _ _ (a .other i (omega (arith, e)) (omega arith) (getD lens i 0))
+          ∙ ap (λ (j : ℕ). f j (rest (i + 1))) (sym (add-one i))
+          ∙ past d (i + 1) r (omega (arith, e)) (record { onward = omega (arith, e); within = a .within; other = λ j h l. a .other j h (omega (arith, l)) })
 
-    passed : (i r : ℕ) → Passed text starts n p i r → f i (rest i) ≡ f r (rest r)
-    passed i r a = past (r - i) i r (omega (arith, a .onward)) a
+      passed : (i r : ℕ) → Passed text starts n w i r → f i (rest i) ≡ f r (rest r)
+      passed i r a = past (r - i) i r (omega (arith, a .onward)) a
 
-  module _ (p t : Text) where
-    find-passed : (i r : ℕ) → Passed text starts n p i r → findFrom i (p ++ t) (rest i) ≡ findFrom r (p ++ t) (rest r)
+    find-passed : (i r : ℕ) → Passed text starts n w i r → findFrom i w (rest i) ≡ findFrom r w (rest r)
     unfolding findFrom
-    find-passed i r a = passed (λ (j : ℕ) (qs : List Text). findFrom j (p ++ t) qs) p (λ j q qs f. rw (joined-other p t q f) refl) i r a
+    find-passed i r a = passed (λ (j : ℕ) (qs : List Text). findFrom j w qs) (λ j q qs f. rw (same-other w q f) refl) i r a
 
-    pub find-start : (r : ℕ) → Passed text starts n p 0 r → find (p ++ t) (pathTable text starts lens n) ≡ findFrom r (p ++ t) (rest r)
-    find-start r a = find-from (p ++ t) (pathTable text starts lens n) ∙ ap (findFrom 0 (p ++ t)) (sym rest-all) ∙ find-passed 0 r a
+    pub find-start : find w (pathTable text starts lens n) ≡ findFrom 0 w (rest 0)
+    find-start = find-from w (pathTable text starts lens n) ∙ ap (findFrom 0 w) (sym rest-all)
 
-    some-passed : (i r : ℕ) → Passed text starts n p i r → someOf (prefixOf (p ++ t)) (rest i) ≡ someOf (prefixOf (p ++ t)) (rest r)
+    module _ (i c : ℕ) (a : Passed text starts n w i c) (all : find w (pathTable text starts lens n) ≡ findFrom i w (rest i)) where
+      there : find w (pathTable text starts lens n) ≡ findFrom c w (rest c)
+      there = all ∙ find-passed i c a
+
+      pub find-none : n ≤ c → none ≡ find w (pathTable text starts lens n)
+      unfolding findFrom
+      find-none h = sym (there ∙ ap (findFrom c w) (rest-none c h))
+
+      module _ (h : c < n) (q : Text) (e : q ≡ take (getD lens c 0) (drop (getD starts c 0) text)) (b : Bool) (d : b ≡ sameText w q) where
+        pub find-here : b ≡ true → some c ≡ find w (pathTable text starts lens n)
+        unfolding findFrom
+        find-here y = sym (there ∙ ap (findFrom c w) (rest-row c h q e) ∙ rw (← d, y) refl)
+
+        pub find-on : b ≡ false → find w (pathTable text starts lens n) ≡ findFrom (c + 1) w (rest (c + 1))
+        unfolding findFrom
+        find-on y = there ∙ ap (findFrom c w) (rest-row c h q e) ∙ (rw (← d, y) (ap (λ (m : ℕ). findFrom m w (rest (c + 1))) (sym (add-one c))))
+
+    some-passed : (i r : ℕ) → Passed text starts n w i r → someOf (prefixOf w) (rest i) ≡ someOf (prefixOf w) (rest r)
     unfolding someOf
-    some-passed i r a = passed (λ (j : ℕ) (qs : List Text). someOf (prefixOf (p ++ t)) qs) p (λ j q qs f. rw (prefix-joined p t q, f) refl) i r a
+    some-passed i r a = passed (λ (j : ℕ) (qs : List Text). someOf (prefixOf w) qs) (λ j q qs f. rw f refl) i r a
 
-    pub some-start : (r : ℕ) → Passed text starts n p 0 r → someOf (prefixOf (p ++ t)) (pathTable text starts lens n) ≡ someOf (prefixOf (p ++ t)) (rest r)
-    some-start r a = ap (someOf (prefixOf (p ++ t))) (sym rest-all) ∙ some-passed 0 r a
+    pub some-start : (r : ℕ) → Passed text starts n w 0 r → someOf (prefixOf w) (pathTable text starts lens n) ≡ someOf (prefixOf w) (rest r)
+    some-start r a = ap (someOf (prefixOf w)) (sym rest-all) ∙ some-passed 0 r a
 
     module _ (i : ℕ) (h : i < n) (q : Text) (e : q ≡ take (getD lens i 0) (drop (getD starts i 0) text)) where
-      module _ (o : Found) (d : isNothing o ≡ sameText (p ++ t) q) (all : find (p ++ t) (pathTable text starts lens n) ≡ findFrom i (p ++ t) (rest i)) where
-        pub find-here : o ≡ Nothing → some i ≡ find (p ++ t) (pathTable text starts lens n)
-        unfolding findFrom
-        find-here y = sym (all ∙ ap (findFrom i (p ++ t)) (rest-row i h q e) ∙ rw (← d, y) refl)
-
-        pub find-on : (j : ℕ) → o ≡ At j → (r : ℕ) → Passed text starts n p (i + 1) r → find (p ++ t) (pathTable text starts lens n) ≡ findFrom r (p ++ t) (rest r)
-        unfolding findFrom
-        find-on j y r a =
-            all ∙ ap (findFrom i (p ++ t)) (rest-row i h q e) ∙ (rw (← d, y) (ap (λ (m : ℕ). findFrom m (p ++ t) (rest (i + 1))) (sym (add-one i)))) ∙ find-passed (i + 1) r a
-
-      module _ (b : Bool) (d : b ≡ prefixOf (p ++ t) q) (all : someOf (prefixOf (p ++ t)) (pathTable text starts lens n) ≡ someOf (prefixOf (p ++ t)) (rest i)) where
-        pub some-here : b ≡ true → true ≡ someOf (prefixOf (p ++ t)) (pathTable text starts lens n)
+      module _ (b : Bool) (d : b ≡ prefixOf w q) (all : someOf (prefixOf w) (pathTable text starts lens n) ≡ someOf (prefixOf w) (rest i)) where
+        pub some-here : b ≡ true → true ≡ someOf (prefixOf w) (pathTable text starts lens n)
         unfolding someOf
-        some-here y = sym (all ∙ ap (someOf (prefixOf (p ++ t))) (rest-row i h q e) ∙ rw (← d, y) refl)
+        some-here y = sym (all ∙ ap (someOf (prefixOf w)) (rest-row i h q e) ∙ rw (← d, y) refl)
 
-        pub some-on : b ≡ false → (r : ℕ) → Passed text starts n p (i + 1) r → someOf (prefixOf (p ++ t)) (pathTable text starts lens n) ≡ someOf (prefixOf (p ++ t)) (rest r)
+        pub some-on : b ≡ false → (r : ℕ) → Passed text starts n w (i + 1) r → someOf (prefixOf w) (pathTable text starts lens n) ≡ someOf (prefixOf w) (rest r)
         unfolding someOf
-        some-on y r a = all ∙ ap (someOf (prefixOf (p ++ t))) (rest-row i h q e) ∙ (rw (← d, y) refl) ∙ some-passed (i + 1) r a
-
-  pub find-none : (w : Text) (i : ℕ) → n ≤ i → find w (pathTable text starts lens n) ≡ findFrom i w (rest i) → none ≡ find w (pathTable text starts lens n)
-  unfolding findFrom
-  find-none w i h all = sym (all ∙ ap (findFrom i w) (rest-none i h))
+        some-on y r a = all ∙ ap (someOf (prefixOf w)) (rest-row i h q e) ∙ (rw (← d, y) refl) ∙ some-passed (i + 1) r a
 
   pub some-none : (ok : Text → Bool) (i : ℕ) → n ≤ i → someOf ok (pathTable text starts lens n) ≡ someOf ok (rest i) → false ≡ someOf ok (pathTable text starts lens n)
   unfolding someOf
@@ -282,9 +326,9 @@ module _ (text : Text) (starts lens : List ℕ) (n : ℕ) where
 -- The asked path
 
 module _ (table : List Text) (p : Text) where
-  pub config-in : (apart : Bool) → joint p ≡ slashIf apart → (r : Found) → foundNumber r ≡ find (p ++ (slashIf apart ++ tsconfigJson)) table → foundNumber r ≡ find (pushOf p tsconfigJson) table
+  pub named-in : (name : Text) (apart : Bool) → joint p ≡ slashIf apart → (r : Found) → foundNumber r ≡ find (p ++ (slashIf apart ++ name)) table → foundNumber r ≡ find (pushOf p name) table
   unfolding pushOf
-  config-in apart j r h = h ∙ sym (rw j refl)
+  named-in name apart j r h = h ∙ sym (rw j refl)
 
   pub whole-path : (r : Found) → foundNumber r ≡ find (p ++ ([] ++ [])) table → foundNumber r ≡ find p table
   whole-path r e = e ∙ ap (λ (w : Text). find w table) (append-nil p)

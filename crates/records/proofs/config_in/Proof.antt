@@ -1,6 +1,6 @@
+use Rattle.names.specs.Names.{tsconfigJson}
 use Rattle.records.specs.Items.{pathTable}
-use Rattle.records.proofs.Paths.{config-in}
-use borrow.Author.Needs.{needs}
+use Rattle.records.proofs.Paths.{named-in}
 use native.Mathlib.Omega.{arith}
 use borrow.Author.Needs.{needs}
 use Rattle.records.proofs.config_in.Statement.{statement}
@@ -8,10 +8,14 @@ use Rattle.records.proofs.config_in.Tie as tie
 use Rattle.records.proofs.config_in.Reads as reads
 use Rattle.records.proofs.config_in.Lts as lts
 use Rattle.join.proofs.wants_slash.Reads as wants-slash-reads
+use Rattle.records.proofs.back.Reads as back-reads
 use Rattle.records.proofs.find_joined.Reads as find-joined-reads
 
 wants-slash-requires : tie.Need-wants-slash-requires
 wants-slash-requires c κs = search needs
+
+back-requires : tie.Need-back-requires
+back-requires c κs = search needs
 
 slice-aggregate-find-joined : tie.Need-slice-aggregate-find-joined
 slice-aggregate-find-joined c = search needs
@@ -20,9 +24,14 @@ find-joined-requires : tie.Need-find-joined-requires
 find-joined-requires c κs = search needs
 
 returns : tie.Need-returns
-returns c = let a = c .before .before .before .before .before .before .before .args in config-in (pathTable (a .text .now) (a .starts .now) (a .lens .now) (a .n)) (a .d .now) (c .before .before .wants-slash .result) (c .before .before .wants-slash .ensures) (c .find-joined .result) (c .find-joined .ensures)
+returns c = let a = c .before .before .before .before .before .before .before .before .args in named-in (pathTable (a .text .now) (a .starts .now) (a .lens .now) (a .n)) (a .d .now) tsconfigJson (c .before .before .before .wants-slash .result) (c .before .before .before .wants-slash .ensures) (c .find-joined .result) (c .find-joined .ensures)
 
 pub config-in-spec : {M : Type 1} → statement M
 config-in-spec =
     tie.close
-    (tie.spec wants-slash-requires slice-aggregate-find-joined find-joined-requires returns)
+    (tie.spec
+    wants-slash-requires
+    back-requires
+    slice-aggregate-find-joined
+    find-joined-requires
+    returns)

@@ -1,9 +1,5 @@
 use Prim.Native.Nat.{_≤_}
-use mathlib.Core.Path.{_≡_, sym}
-use mathlib.Core.Bool.{true}
-use lib.ListN.{length, drop}
-use Rattle.text.proofs.Scans.{prefix-end, prefix-differs, prefix-back, prefix-whole}
-use Rattle.text.specs.Text.{prefixOf}
+use lib.ListN.{length}
 use native.Mathlib.Omega.{arith}
 use borrow.Author.Needs.{needs}
 use Rattle.records.proofs.last_difference.Statement.{statement}
@@ -12,34 +8,40 @@ use Rattle.records.proofs.last_difference.Reads as reads
 use Rattle.records.proofs.last_difference.Lts as lts
 
 abbrev Inv-loop : tie.InvT-loop
-Inv-loop q p i₀ i = (i ≤ length p) × (prefixOf (drop i p) (drop i q) ≡ true)
+Inv-loop q at p i₀ i = i ≤ length p
 
 abbrev μ-loop : tie.MeasureT-loop
-μ-loop q p i₀ i = i
+μ-loop q at p i₀ i = i
 
 loop-holds : tie.Need-loop-holds Inv-loop μ-loop
-loop-holds c = (search needs, prefix-end (c .args .p .now) (c .args .q .now) (length (c .args .p .now)) (omega arith))
+loop-holds c = omega arith
 
 sub-i : tie.Need-sub-i Inv-loop μ-loop
-sub-i c = search needs
+sub-i c = omega arith
+
+add-if1 : tie.Need-add-if1 Inv-loop μ-loop
+add-if1 c = omega arith
 
 shared-slice-read-if1 : tie.Need-shared-slice-read-if1 Inv-loop μ-loop
-shared-slice-read-if1 c = search needs
+shared-slice-read-if1 c = omega arith
 
 shared-slice-read-if1-2 : tie.Need-shared-slice-read-if1-2 Inv-loop μ-loop
-shared-slice-read-if1-2 c = search needs
+shared-slice-read-if1-2 c = omega arith
+
+add-t11 : tie.Need-add-t11 Inv-loop μ-loop
+add-t11 c = omega arith
 
 returns : tie.Need-returns Inv-loop μ-loop
-returns c = sym (prefix-differs (c .before .before .before .before .before .args .p .now) (c .before .before .before .before .before .args .q .now) _ (omega (arith, c .before .before .before .before .loop .inv .0, c .before .before .before .loop-test .taken)) (c .if1 .taken))
+returns c = omega arith
 
 loop-less : tie.Need-loop-less Inv-loop μ-loop
-loop-less c = search needs
+loop-less c = omega arith
 
 loop-again : tie.Need-loop-again Inv-loop μ-loop
-loop-again c = (omega (arith, c .before .before .before .before .loop .inv .0, c .before .before .before .loop-test .taken), prefix-back (c .before .before .before .before .before .args .p .now) (c .before .before .before .before .before .args .q .now) (c .before .before .before .before .loop .i) _ (omega (arith, c .before .before .before .loop-test .taken)) (c .before .before .before .before .loop .inv .0) (c .before .before .before .before .before .pre) (c .if1 .left) (c .before .before .before .before .loop .inv .1))
+loop-again c = omega arith
 
 returns-2 : tie.Need-returns-2 Inv-loop μ-loop
-returns-2 c = prefix-whole (c .before .before .args .p .now) (c .before .before .args .q .now) _ (c .loop-test .left) (c .before .loop .inv .1)
+returns-2 c = omega arith
 
 pub last-difference-spec : {M : Type 1} → statement M
 last-difference-spec =
@@ -49,8 +51,10 @@ last-difference-spec =
     μ-loop
     loop-holds
     sub-i
+    add-if1
     shared-slice-read-if1
     shared-slice-read-if1-2
+    add-t11
     returns
     loop-less
     loop-again
