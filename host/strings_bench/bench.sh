@@ -7,8 +7,8 @@ root=$(cd "$here/../.." && pwd)
 work=$(mktemp -d)
 trap 'rm -rf "$work"' EXIT
 mkdir -p "$work/crates/strings_bench/src"
-for crate in text names emit components ends path strings normal path_rules patterns compare; do cp -r "$root/crates/$crate" "$work/crates/"; done
-grep -E '^(text|names|emit|components|ends|path|strings|normal|path_rules|patterns|compare):' "$root/crates.txt" > "$work/crates.txt"
+for crate in text names emit components component_walk ends path strings normal path_rules patterns compare; do cp -r "$root/crates/$crate" "$work/crates/"; done
+grep -E '^(text|names|emit|components|component_walk|ends|path|strings|normal|path_rules|patterns|compare):' "$root/crates.txt" > "$work/crates.txt"
 echo 'strings_bench: strings path_rules patterns compare' >> "$work/crates.txt"
 for rule in strings::is_string patterns::is_pattern path_rules::is_record_path path_rules::obeys_lead path_rules::is_asked_path; do
     printf '#[no_mangle]\npub extern "C" fn bench_%s(s: &[u8]) -> bool { %s(s) }\n\n' ${rule#*::} $rule

@@ -15,7 +15,8 @@ use Rattle.glob.specs.Glob.{afterStars, afterStar, tokenAt, tokens, eat, after,
 use Rattle.join.specs.Join.{joint, pushOf, stepBy, stepOf, walkOf, normalizeWith}
 use Rattle.keys.specs.Keys.{matchesAt, partAt, keyPart}
 use Rattle.path.specs.Path.{sameList, leftOf, isSome, samePath, under, leftPieces, stripPrefix, normal}
-use Rattle.questions.specs.Questions.{fit, asked, build, listed as listed-in-Questions, candidatesOf, triesOf, ownerReply, owner, book, tsconfigBuild, tsconfigOwner, tsconfigCandidates, tsconfigTries}
+use Rattle.replies.specs.Replies.{fit, listed as listed-in-Questions}
+use Rattle.questions.specs.Questions.{asked, build, candidatesOf, triesOf, ownerReply, owner, book, tsconfigBuild, tsconfigOwner, tsconfigCandidates, tsconfigTries}
 use Rattle.strings.specs.Strings.{stringRule}
 use Rattle.path_rules.specs.Paths.{recordPath, leadRule, askedPath}
 use Rattle.patterns.specs.Patterns.{afterConfigDir, twoStars, patternText, patternRule}

@@ -5,7 +5,8 @@ use mathlib.Core.List.{List, [], _∷_, _++_, map}
 use mathlib.Core.Path.{_≡_}
 use lib.ListN.{length}
 use Rattle.text.specs.Bytes.{Text, bytes}
-use Rattle.questions.specs.Questions.{Outcome, tsconfigBuild, tsconfigOwner, tsconfigCandidates, tsconfigTries, returned, output}
+use Rattle.replies.specs.Replies.{Outcome, returned, output}
+use Rattle.questions.specs.Questions.{tsconfigBuild, tsconfigOwner, tsconfigCandidates, tsconfigTries}
 -- what the answers are computed with
 use Rattle.book.specs.Book.{next, finish, judge, verdict}
 use Rattle.book.specs.Command.{widthOf, operands, decodeAt, decode}
@@ -18,7 +19,8 @@ use Rattle.glob.specs.Glob.{afterStars, afterStar, tokenAt, tokens, eat, after,
 use Rattle.join.specs.Join.{joint, pushOf, stepBy, stepOf, walkOf, normalizeWith}
 use Rattle.keys.specs.Keys.{matchesAt, partAt, keyPart}
 use Rattle.path.specs.Path.{sameList, leftOf, isSome, samePath, under, leftPieces, stripPrefix, normal}
-use Rattle.questions.specs.Questions.{fit, asked as asked-in-Questions, build, listed as listed-in-Questions, candidatesOf, triesOf, ownerReply, owner, book}
+use Rattle.replies.specs.Replies.{fit, listed as listed-in-Questions}
+use Rattle.questions.specs.Questions.{asked as asked-in-Questions, build, candidatesOf, triesOf, ownerReply, owner, book}
 use Rattle.strings.specs.Strings.{stringRule}
 use Rattle.path_rules.specs.Paths.{recordPath, leadRule, askedPath}
 use Rattle.patterns.specs.Patterns.{afterConfigDir, twoStars, patternText, patternRule}

@@ -19,7 +19,8 @@ use Rattle.tsconfig.specs.Mapping.{bestKey}
 use Rattle.tsconfig.specs.Parsed.{Parsed}
 use Rattle.tsconfig_resolver.specs.Line.{line}
 use Rattle.tsconfig_resolver.specs.Find.{pathAt, seen}
-use Rattle.questions.specs.Questions.{Outcome, Reply, book}
+use Rattle.replies.specs.Replies.{Outcome, Reply}
+use Rattle.questions.specs.Questions.{book}
 use Rattle.cases.specs.Asked.{Question, B, O, C, T, outcome}
 
 pub data Case : Type 0 where

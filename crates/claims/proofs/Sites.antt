@@ -12,7 +12,7 @@ use Rattle.text.specs.declared.Found.{Found}
 use Rattle.text.specs.declared.Found.the-variants.{At, Nothing}
 use Rattle.ends.specs.Ends.{parentOf}
 use Rattle.path.specs.Path.{isSome}
-use Rattle.text.proofs.Picks.{by-test, never}
+use Rattle.text.proofs.Picks.{by-test}
 use Rattle.book.specs.declared.Cmd.{Cmd}
 use Rattle.book.specs.Record.{is, strings, listed, flagOf}
 use Rattle.book.specs.Index.{recordAt}
@@ -24,7 +24,7 @@ use Rattle.tsconfig.specs.Build.{adjusted, builtValue}
 use Rattle.tsconfig.specs.Claims.{Site}
 use Rattle.rows.specs.Rows.{Row, slot, supplier, numberOf, beginAt}
 use Rattle.rows.specs.Records.{Records, recordsOf, dirOf}
-use Rattle.rows.proofs.Fields.{plain, map-plain, found-place, found-rec, record-says, supplier-there, field-sound, own-begin, own-sound, site-path, site-none, site-plain}
+use Rattle.rows.proofs.Fields.{plain, map-plain, found-place, found-rec, record-says, supplier-there, field-sound, own-sound, site-path, site-none, site-plain}
 use Rattle.values.proofs.Reading.{dir-short}
 use Rattle.claims.specs.Built.{siteIn}
 

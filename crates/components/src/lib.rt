@@ -1,17 +1,14 @@
-// The pieces of a path between its slashes, read from the front: which are components, where the next one stands, and the `/` or `.` in front.
-use names::is_node_modules;
+// The pieces of a path between its slashes: what each is, where it ends, and the `/` or `.` in front.
 use text::DOT;
 use text::Found;
-use text::Part;
 use text::SLASH;
-use text::between;
 use text::find_byte;
 use text::from;
 ghost use mathlib.Core.Path.{_≡_};
-ghost use lib.ListN.{length, drop};
+ghost use lib.ListN.{length};
 ghost use Rattle.text.specs.Bytes.{slash};
-ghost use Rattle.components.specs.Components.{split, pieceOf, isSkip, isName, starts, leadsDot, leadOf, components, insideNodeModules};
-ghost use Rattle.components.specs.Places.{pieceEnd, nextPart};
+ghost use Rattle.components.specs.Components.{pieceOf, isSkip, isName, starts, leadsDot, leadOf};
+ghost use Rattle.components.specs.Places.{pieceEnd};
 
 // What a piece between slashes is.
 pub enum Piece {
@@ -67,23 +64,6 @@ pub fn piece_end(s: &[u8], at: usize) -> usize
     at + i
 }
 
-// The first component at or after `at`, where a piece begins.
-pub fn next_component(s: &[u8], at: usize) -> Part
-    ensures { λ r. ⌜ r ≡ nextPart at (split (drop at (now (s .entry)))) ⌝ }
-{
-    let mut i = at;
-    loop {
-        let e = piece_end(s, i);
-        if !is_skipped(between(s, i, e)) {
-            return Part::Span(i, e);
-        }
-        if s.len() <= e {
-            return Part::Missing;
-        }
-        i = e + 1;
-    }
-}
-
 // Whether a piece is a name: neither skipped nor `..`
 pub fn is_name(p: &[u8]) -> bool
     ensures { λ r. ⌜ r ≡ isName (pieceOf (now (p .entry))) ⌝ }
@@ -103,23 +83,6 @@ pub fn is_absolute(s: &[u8]) -> bool
         return false;
     }
     s[0] == SLASH
-}
-
-// Whether a component of s is `node_modules`.
-pub fn inside_node_modules(s: &[u8]) -> bool
-    ensures { λ r. ⌜ r ≡ insideNodeModules (now (s .entry)) ⌝ }
-{
-    let mut i = 0;
-    loop {
-        let e = piece_end(s, i);
-        if is_node_modules(between(s, i, e)) {
-            return true;
-        }
-        if s.len() <= e {
-            return false;
-        }
-        i = e + 1;
-    }
 }
 
 // Whether s is `.` or begins `./`
@@ -149,19 +112,4 @@ pub fn lead_len(s: &[u8]) -> usize
         return 1;
     }
     0
-}
-
-// How many components s has.
-pub fn count_components(s: &[u8]) -> usize
-    ensures { λ r. ⌜ r ≡ length (components (now (s .entry))) ⌝ }
-{
-    let mut n = lead_len(s);
-    let mut at = 0;
-    loop {
-        let Part::Span(_, e) = next_component(s, at) else {
-            return n;
-        };
-        n += 1;
-        at = e + 1;
-    }
 }

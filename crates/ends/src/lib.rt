@@ -1,12 +1,10 @@
-// The end of a path: its last piece, its last component, file name and extension, and the path without them.
+// The end of a path: its last piece, its last component, and the path without it.
 use components::is_absolute;
-use components::is_name;
 use components::is_skipped;
 use components::lead_len;
 use components::leads_dot;
 use text::DOT;
 use text::Found;
-use text::Part;
 use text::SLASH;
 use text::between;
 use text::find_last;
@@ -17,14 +15,13 @@ ghost use Prim.Native.Nat.{_+_, _-_};
 ghost use lib.ListN.{length, drop};
 ghost use mathlib.Core.Bool.{true};
 ghost use Rattle.text.specs.Bytes.{slash};
-ghost use Rattle.text.specs.Text.{partOf};
 ghost use Rattle.emit.specs.Emit.{Holds};
 ghost use Rattle.components.specs.Components.{split, starts};
-ghost use Rattle.ends.specs.Ends.{joined, trimEnd, parentOf, lastPiece, fileName, extension};
+ghost use Rattle.ends.specs.Ends.{joined, trimEnd, parentOf, lastPiece};
 ghost use Rattle.ends.specs.Usual.{plain, Stands, UsualParent};
 
 // Where the last piece of s begins.
-fn last_start(s: &[u8]) -> usize
+pub fn last_start(s: &[u8]) -> usize
     ensures { λ r. ⌜ r ≡ length (now (s .entry)) - length (lastPiece (now (s .entry))) ⌝ }
 {
     let Found::At(i) = find_last(s, SLASH) else {
@@ -72,34 +69,6 @@ pub fn component_end(s: &[u8], a: usize) -> usize
         }
         e = a + k - 1;
     }
-}
-
-// Path::file_name, as a part of s.
-pub fn file_name(s: &[u8]) -> Part
-    ensures { λ r. ⌜ partOf (now (s .entry)) r ≡ fileName (now (s .entry)) ⌝ }
-{
-    let e = component_end(s, 0);
-    let a = last_start(upto(s, e));
-    if !is_name(between(s, a, e)) {
-        return Part::Missing;
-    }
-    Part::Span(a, e)
-}
-
-// Path::extension, as a part of s.
-pub fn extension(s: &[u8]) -> Part
-    ensures { λ r. ⌜ partOf (now (s .entry)) r ≡ extension (now (s .entry)) ⌝ }
-{
-    let Part::Span(a, e) = file_name(s) else {
-        return Part::Missing;
-    };
-    let Found::At(i) = find_last(between(s, a, e), DOT) else {
-        return Part::Missing;
-    };
-    if i == 0 {
-        return Part::Missing;
-    }
-    Part::Span(a + i + 1, e)
 }
 
 // Where the last slash of a path from the root stands. It is looked for from the end, and the first byte is one.

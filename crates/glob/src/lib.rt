@@ -1,19 +1,17 @@
-// Patterns against paths: `?`, `*` and `**`.
-use text::Found;
+// A pattern with `?`, `*` and `**` up to its first star, and how it fares against a path.
 use text::QUESTION;
 use text::SLASH;
 use text::STAR;
-use text::find_byte;
 use text::from;
 use text::upto;
 ghost use mathlib.Core.Path.{_≡_};
 ghost use Prim.Native.Nat.{_≤_};
 ghost use lib.ListN.{length, take};
 ghost use Rattle.glob.specs.Glob.{globOf};
-ghost use Rattle.glob.specs.Verdicts.{Sound, FrontIs, AtStar, MayBegin, Skips, isYes, isSettled, isDecided, insideOf, pastOf, dirsOf, behindOf, passedOf, takesOf};
+ghost use Rattle.glob.specs.Verdicts.{FrontIs, AtStar, MayBegin, Skips, isYes, isSettled, isDecided, insideOf, pastOf, dirsOf, behindOf, passedOf, takesOf};
 
 // How a pattern fares against a path. A failure says where else it fails too, so that an earlier star need not try there.
-enum Verdict {
+pub enum Verdict {
     Yes,
     // It fails here.
     No,
@@ -26,7 +24,7 @@ enum Verdict {
 }
 
 // What a pattern comes to before its first star.
-enum Front {
+pub enum Front {
     // No star decides it, or a last `**` does.
     Known(Verdict),
     // It takes so many bytes, and then comes `*`.
@@ -35,7 +33,7 @@ enum Front {
     Stars(usize),
 }
 
-fn yes(v: Verdict) -> bool
+pub fn yes(v: Verdict) -> bool
     ensures { λ r. ⌜ r ≡ isYes v ⌝ }
 {
     match v {
@@ -48,7 +46,7 @@ fn yes(v: Verdict) -> bool
 }
 
 // Whether a verdict after a star leaves nothing to try.
-fn settled(v: Verdict) -> bool
+pub fn settled(v: Verdict) -> bool
     ensures { λ r. ⌜ r ≡ isSettled v ⌝ }
 {
     match v {
@@ -61,7 +59,7 @@ fn settled(v: Verdict) -> bool
 }
 
 // Whether a verdict after `**/` leaves nothing to try.
-fn decided(v: Verdict) -> bool
+pub fn decided(v: Verdict) -> bool
     ensures { λ r. ⌜ r ≡ isDecided v ⌝ }
 {
     match v {
@@ -100,7 +98,7 @@ fn past(v: Verdict) -> Verdict
 }
 
 // The verdict with `**/` in front.
-fn dirs(v: Verdict) -> Verdict
+pub fn dirs(v: Verdict) -> Verdict
     ensures { λ r. ⌜ r ≡ dirsOf v ⌝ }
 {
     match v {
@@ -123,7 +121,7 @@ fn behind(x: u8, v: Verdict) -> Verdict
 }
 
 // The verdict with the first k bytes of s in front.
-fn passed(s: &[u8], k: usize, v: Verdict) -> Verdict
+pub fn passed(s: &[u8], k: usize, v: Verdict) -> Verdict
     ensures { λ r. ⌜ r ≡ passedOf (take k (now (s .entry))) v ⌝ }
 {
     let w = upto(s, k);
@@ -171,7 +169,7 @@ fn at_star(p: &[u8], s: &[u8], i: usize) -> Front
 }
 
 // p against s up to the first star of p.
-fn reach(p: &[u8], s: &[u8]) -> Front
+pub fn reach(p: &[u8], s: &[u8]) -> Front
     ensures { λ r. ⌜ FrontIs r (now (p .entry)) (now (s .entry)) ⌝ }
 {
     let mut i = 0;
@@ -209,7 +207,7 @@ fn may_begin(p: &[u8], x: u8) -> bool
 }
 
 // The next place of s from i on, in the same component, at which p can begin, or the component's end.
-fn skip(p: &[u8], s: &[u8], i: usize) -> usize
+pub fn skip(p: &[u8], s: &[u8], i: usize) -> usize
     requires { ⌜ i ≤ length (now s) ⌝ }
     ensures { λ r. ⌜ Skips (globOf (now (p .entry))) (now (s .entry)) i r ⌝ }
 {
@@ -225,56 +223,4 @@ fn skip(p: &[u8], s: &[u8], i: usize) -> usize
         j += 1;
     }
     j
-}
-
-// How p fares against s. What follows a star is tried at one place of s after another.
-fn glob(p: &[u8], s: &[u8]) -> Verdict
-    ensures { λ r. ⌜ Sound r (globOf (now (p .entry))) (now (s .entry)) ⌝ }
-{
-    let f = reach(p, s);
-    match f {
-        Front::Known(v) => v,
-        Front::Star(k) => {
-            let rest = from(p, k + 1);
-            let left = from(s, k);
-            let mut i = 0;
-            loop {
-                i = skip(rest, left, i);
-                let v = glob(rest, from(left, i));
-                if settled(v) {
-                    return passed(s, k, v);
-                }
-                if i == left.len() {
-                    return passed(s, k, Verdict::Never);
-                }
-                if left[i] == SLASH {
-                    return passed(s, k, Verdict::Stop);
-                }
-                i += 1;
-            }
-        }
-        Front::Stars(k) => {
-            let rest = from(p, k + 3);
-            let left = from(s, k);
-            let mut at = 0;
-            loop {
-                let here = from(left, at);
-                let v = glob(rest, here);
-                if decided(v) {
-                    return passed(s, k, dirs(v));
-                }
-                let Found::At(j) = find_byte(here, SLASH) else {
-                    return passed(s, k, Verdict::Later);
-                };
-                at += j + 1;
-            }
-        }
-    }
-}
-
-// Whether the pattern p matches the whole of the path s.
-pub fn matches(p: &[u8], s: &[u8]) -> bool
-    ensures { λ r. ⌜ r ≡ globOf (now (p .entry)) (now (s .entry)) ⌝ }
-{
-    yes(glob(p, s))
 }

@@ -10,7 +10,6 @@ use Rattle.text.specs.Bytes.{Text}
 use Rattle.text.specs.Text.{sameText, starOf}
 use Rattle.text.specs.declared.Found.{Found}
 use Rattle.text.specs.declared.Found.the-variants as found
-use Rattle.emit.proofs.Emits.{emits-none}
 use Rattle.text.proofs.Picks.{by-test}
 use Rattle.keys.specs.Keys.{suffix, matchesAt, partAt, keyPart, isMatch}
 use Rattle.book.specs.declared.Cmd.{Cmd}
@@ -25,12 +24,12 @@ use Rattle.tsconfig.specs.Build.{adjusted}
 use Rattle.tsconfig.specs.Mapping.{equalKey, longer, bestKey, filled, fromBest, fromEqual, fromPaths}
 use Rattle.values.proofs.Lengths.{targets-length}
 use Rattle.values.proofs.Reading.{good-short}
-use Rattle.mapping.specs.declared.Listed.{Listed}
+use Rattle.targets.specs.declared.Listed.{Listed}
 use Rattle.tsconfig.specs.Laid.{laid}
-use Rattle.mapping.specs.Keyed.{keyAt, builtKey}
-use Rattle.mapping.specs.Targets.{targetAs, targetsAs, EachShort, Short, Fits, Lists}
-use Rattle.mapping.proofs.Chosen.{keysFrom, keyOf}
-use Rattle.mapping.proofs.Aims.{laid-length}
+use Rattle.choice.specs.Keyed.{keyAt, builtKey}
+use Rattle.targets.specs.Targets.{targetAs, targetsAs, EachShort, Short, Fits, Lists}
+use Rattle.choice.proofs.Chosen.{keysFrom, keyOf}
+use Rattle.targets.proofs.Aims.{laid-length, lists-none}
 
 -- Building keeps the keys, so that it changes no choice
 
@@ -168,10 +167,6 @@ module _ (text dir base spec : Text) where
       let ks = keysOf text r in
       let a = keys-few n r g l in
       rw (equal-built dir base spec ks) (equal-few n h ks (equalKey spec ks) (equal-holds (FewKey n) spec ks a) (best-holds (FewKey n) spec none ks tt a))
-
-pub lists-none : (o : Text) (at : ℕ) → Lists [] o at o (record { count = 0; at = at })
-unfolding laid
-lists-none o at = record { counts = refl; emits = emits-none o at }
 
 module _ (s text dir base spec : Text) (rec at : ℕ) (pre : All (Good text) (recordAt s rec) × (Short dir base spec × Fits s at))
     (r : Item) (q : keyAt s text r ≡ equalKey spec (keysFrom s text rec)) where

@@ -5,10 +5,10 @@ use mathlib.Core.Bool.{Bool, true, false, true≢false}
 use mathlib.Core.Option.{Option, some, none, Option·map}
 use Prim.Native.Nat.{ℕ, _^_, _≤_, _<_}
 use native.Mathlib.Omega.{arith}
-use lib.ListN.{length, getD, take}
+use lib.ListN.{length, getD}
 use Rattle.text.specs.Bytes.{Text, dot}
 use Rattle.text.specs.Text.{someOf}
-use Rattle.emit.specs.Emit.{written, Room, Emits, Holds}
+use Rattle.emit.specs.Emit.{written, Emits}
 use Rattle.text.specs.declared.Found.{Found}
 use Rattle.text.specs.declared.Found.the-variants.{At, Nothing}
 use Rattle.components.specs.Components.{starts}
@@ -26,34 +26,18 @@ use Rattle.tsconfig.specs.Config.{Field, baseUrl, paths}
 use Rattle.tsconfig.specs.Parsed.{placedValue, said}
 use Rattle.tsconfig.specs.Build.{Settings, builtValue}
 use Rattle.tsconfig.specs.Mapping.{fromPaths, aliases, fromBaseUrl, orIfNone, candidates}
-use Rattle.rows.specs.Rows.{slot, beginAt, supplier, numberOf, siteOf, Row}
+use Rattle.rows.specs.Rows.{slot, beginAt, supplier, siteOf, Row}
 use Rattle.rows.specs.Records.{Records, recordsOf, dirOf}
 use Rattle.rows.proofs.Fields.{found-place, found-rec, record-says, supplier-there, row-begin, place-sound, own-sound, site-path, site-none, site-plain, plain}
-use Rattle.values.proofs.Lengths.{normalize-length, record-length}
+use Rattle.values.proofs.Lengths.{record-length}
 use Rattle.values.proofs.Reading.{dir-short}
-use Rattle.mapping.specs.declared.Listed.{Listed}
+use Rattle.targets.specs.declared.Listed.{Listed}
 use Rattle.tsconfig.specs.Laid.{laid}
-use Rattle.mapping.specs.Keyed.{builtKey}
-use Rattle.mapping.specs.Targets.{Short, Fits, Lists}
+use Rattle.choice.specs.Keyed.{builtKey}
+use Rattle.targets.specs.Targets.{Short, Fits, Lists}
 use Rattle.mapping.specs.Asks.{configAt, dirAt, Asks}
-use Rattle.mapping.proofs.Lays.{laid-one-length}
-use Rattle.mapping.proofs.Mapped.{lists-none, Few, few-none, paths-few}
-
--- A specifier read from the base; v is what the buffer holds
-
-module _ (base spec : Text) (at : ℕ) (p : (length base ≤ 1600) × ((length spec ≤ 1100) × (at < 2 ^ 62))) (v buf : Text) (n : ℕ)
-    (h : Holds n buf (normalizeWith base spec)) (q : v ≡ take n buf) where
-  read-is : v ≡ normalizeWith base spec
-  read-is = q ∙ h .bytes
-
-  read-length : length v ≤ 2701
-  read-length = rw read-is (omega (arith, normalize-length base spec, p .0, p .1 .0))
-
-  pub read-asks : Room at (laid (v ∷ [])) × (length v < 65536)
-  read-asks = (record { room = omega (arith, laid-one-length v, read-length, p .1 .1) }, omega (arith, read-length))
-
-  pub read-gives : (o u : Text) (r : ℕ) → Emits (laid (v ∷ [])) o at u r → Emits (laid (normalizeWith base spec ∷ [])) o at u r
-  read-gives o u r e = rw (← read-is) e
+use Rattle.targets.proofs.Aims.{lists-none}
+use Rattle.mapping.proofs.Mapped.{Few, few-none, paths-few}
 
 -- What a row says
 

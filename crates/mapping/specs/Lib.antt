@@ -1,3 +1,1 @@
-pub mod Keyed
-pub mod Targets
 pub mod Asks

@@ -1,6 +1,6 @@
 // Whole paths by components: lies under, equality, and what is left after a directory. src/path.rs and what it needs of std's `Path` on Unix.
+use component_walk::next_component;
 use components::lead_len;
-use components::next_component;
 use ends::component_end;
 use text::Found;
 use text::Part;

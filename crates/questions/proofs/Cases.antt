@@ -8,8 +8,8 @@ use Rattle.text.specs.Bytes.{Text, bytes, star}
 use Rattle.verdicts.proofs.Written.{Line, _says_, commands-of, text-of, times, at, extends, files, baseUrl, paths, key}
 use Rattle.book.specs.Command as command
 use Rattle.tsconfig.specs.Laid.{laid}
-use Rattle.questions.specs.Questions.{Outcome, tsconfigBuild, tsconfigOwner, tsconfigCandidates, tsconfigTries, returned, output}
--- what the answers are computed with
+use Rattle.replies.specs.Replies.{Outcome, returned, output, fit, listed as listed-in-Questions}
+use Rattle.questions.specs.Questions.{tsconfigBuild, tsconfigOwner, tsconfigCandidates, tsconfigTries, asked, build, candidatesOf, triesOf, ownerReply, owner, book}
 use Rattle.book.specs.Book.{next, finish, judge, verdict}
 use Rattle.book.specs.Command.{widthOf, operands, decodeAt, decode}
 use Rattle.book.specs.Find.{find, isDir, configPath, locate}
@@ -21,7 +21,6 @@ use Rattle.glob.specs.Glob.{afterStars, afterStar, tokenAt, tokens, eat, after 
 use Rattle.join.specs.Join.{joint, pushOf, stepBy, stepOf, walkOf, normalizeWith}
 use Rattle.keys.specs.Keys.{matchesAt, partAt, keyPart}
 use Rattle.path.specs.Path.{sameList, leftOf, isSome, samePath, under, leftPieces, stripPrefix, normal}
-use Rattle.questions.specs.Questions.{fit, asked, build, listed as listed-in-Questions, candidatesOf, triesOf, ownerReply, owner, book}
 use Rattle.strings.specs.Strings.{stringRule}
 use Rattle.path_rules.specs.Paths.{recordPath, leadRule, askedPath}
 use Rattle.patterns.specs.Patterns.{afterConfigDir, twoStars, patternText, patternRule}
@@ -36,6 +35,8 @@ use Rattle.tsconfig.specs.Parsed.{placed, placedValue, ownBase, parse, said, pa
 use Rattle.tsconfig_resolver.specs.Find.{meant, entry}
 use Rattle.tsconfig_resolver.specs.Load.{loadBy, load}
 use Rattle.tsconfig_resolver.specs.Project.{referTo, referencesOf, loadRecord, loadFound, loadPath, folders, owned, ownerAt, ownerFrom, ownerOf}
+
+-- what the answers are computed with
 
 pub data Case : Type 0 where
   -- a question, its texts, and what the lent output holds before it: its length is the room

@@ -1,15 +1,15 @@
 -- Demand 3: nothing is assumed but that the load gave an answer. Assumes nothing.
 use mathlib.Core.Path.{_≡_, refl, sym, ap, _∙_, subst}
-use mathlib.Core.List.{List, [], _∷_, map}
+use mathlib.Core.List.{List}
 use mathlib.Core.Option.{Option, some, none}
-use Prim.Native.Nat.{ℕ, suc, _<_}
+use Prim.Native.Nat.{ℕ, _<_}
 use native.Mathlib.Omega.{arith}
 use lib.ListN.{length}
 use Rattle.text.specs.Bytes.{Text}
 use Rattle.book.specs.Find.{locate}
 use Rattle.book.specs.Answer.{Answer, refused, given, _>>=_}
 use Rattle.tsconfig.specs.Parsed.{Parsed}
-use Rattle.tsconfig.specs.Claims.{Site, claims, claimsOwnership}
+use Rattle.tsconfig.specs.Claims.{claims, claimsOwnership}
 use Rattle.tsconfig.specs.Mapping.{candidates, tries}
 use Rattle.tsconfig.specs.Listing.{listing}
 use Rattle.tsconfig_resolver.specs.Line.{flatLine}

@@ -1,22 +1,18 @@
 -- What document 01 says of the definitions in words, proved of them.
-use mathlib.Core.Path.{_≡_, refl, sym, ap, ap₂, _∙_}
-use mathlib.Core.List.{List, [], _∷_, _++_}
-use mathlib.Core.Bool.{Bool, true, false, not, _&&_, _||_, cond, false≢true}
-use mathlib.Core.Option.{Option, some, none}
-use Prim.Native.Nat.{ℕ, zero, suc, _+_, _-_, _≤_, _<_}
+use mathlib.Core.Path.{_≡_, refl, ap, ap₂, _∙_}
+use mathlib.Core.List.{List, [], _∷_}
+use mathlib.Core.Bool.{true, _&&_}
+use mathlib.Core.Option.{some}
+use Prim.Native.Nat.{ℕ, _≤_, _<_}
 use native.Mathlib.Omega.{arith}
-use lib.Dec.{eqb, ltb}
 use lib.ListN.{length, drop, length-append, length-drop}
 use borrow.Author.Tests.{eq-eqb, lt-ltb, le-ltb}
 use Rattle.text.specs.Bytes.{Text}
-use Rattle.text.specs.Text.{sameText, someOf}
+use Rattle.text.specs.Text.{sameText}
 use Rattle.components.specs.Components.{split, leadsDot, pieceOf, heads, components, names, starts}
 use Rattle.path.specs.Path.{leftOf, isSome, under, samePath, sameList}
-use Rattle.ends.specs.Ends.{extension}
-use Rattle.book.specs.Answer.{Answer, refused, given}
-use Rattle.tsconfig.specs.Config.{Field, files, include, exclude}
-use Rattle.tsconfig.specs.Claims.{Site, allowJs, solutionStyle, noReferences, isEmptyList, claims, namedFile, included, excluded, outside}
-use Rattle.questions.specs.Questions.{Outcome, Reply, fit, output}
+use Rattle.book.specs.Answer.{refused, given}
+use Rattle.replies.specs.Replies.{Reply, fit, output}
 
 same-self : (a : Text) → sameText a a ≡ true
 unfolding sameText

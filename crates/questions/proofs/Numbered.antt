@@ -1,9 +1,8 @@
 -- Every refusal of every question has a number from 1 to 13. Assumes nothing.
-use mathlib.Core.Path.{_≡_, refl, sym, subst}
 use mathlib.Core.List.{List, [], _∷_, reverse, map}
-use mathlib.Core.Bool.{Bool, true, false, cond, _&&_, _||_}
+use mathlib.Core.Bool.{Bool, true, false, cond, _||_}
 use mathlib.Core.Option.{Option, some, none}
-use Prim.Native.Nat.{ℕ, zero, suc, _≤_}
+use Prim.Native.Nat.{ℕ, zero, suc}
 use native.Mathlib.Omega.{arith}
 use lib.ListN.{length}
 use lib.Dec.{eqb, ltb}
@@ -17,13 +16,14 @@ use Rattle.book.specs.Book.{next, finish, judge, nothing, verdict}
 use Rattle.tsconfig.specs.Config.{Field, Config, merge}
 use Rattle.tsconfig.specs.Parsed.{Parsed, parsed}
 use Rattle.tsconfig_resolver.specs.Line.{Configs, Entry, empty, bare, missing, leads}
-use Rattle.tsconfig_resolver.specs.Load.{State, Loaded, unread, recall, parent, walk, counted, add, put, refusal, fresh, loadBy, load, start}
+use Rattle.tsconfig_resolver.specs.Load.{State, Loaded, unread, recall, parent, walk, counted, add, refusal, fresh, loadBy, load, start}
 use Rattle.tsconfig_resolver.specs.References.{refer}
 use Rattle.tsconfig_resolver.specs.Find.{seen, meant, recordAt}
-use Rattle.tsconfig_resolver.specs.Project.{Project, Owner, Referred, Store, siteAt, referTo, referencesOf, loadRecord, loadFound, loadPath, folders, owned, ownerAt, ownerFrom, ownerOf}
+use Rattle.tsconfig_resolver.specs.Project.{Owner, Store, referTo, referencesOf, loadRecord, loadFound, loadPath, owned, ownerAt, ownerFrom, ownerOf}
 use Rattle.tsconfig.specs.Claims.{claimsOwnership}
-use Rattle.questions.specs.Questions.{Outcome, Reply, fit, asked, book, build, listed, candidatesOf, triesOf, owner, ownerReply, tsconfigBuild, tsconfigOwner, tsconfigCandidates, tsconfigTries}
-use Rattle.questions.specs.Numbered.{InTable, Numbered, NumberedIf}
+use Rattle.replies.specs.Replies.{Outcome, Reply, fit, listed}
+use Rattle.questions.specs.Questions.{asked, book, build, candidatesOf, triesOf, owner, ownerReply, tsconfigBuild, tsconfigOwner, tsconfigCandidates, tsconfigTries}
+use Rattle.questions.specs.Numbered.{Numbered, NumberedIf}
 
 module _ {A B : Type 0} where
   bind : (a : Answer A) (f : A → Answer B) → Numbered a → ((x : A) → Numbered (f x)) → Numbered (a >>= f)

@@ -1,7 +1,7 @@
 -- Demand 3 of what the entries return. Assumes nothing.
 use mathlib.Core.Path.{_≡_, refl, sym, ap, subst, _∙_}
 use mathlib.Core.List.{List, [], _∷_, _++_, map, reverse, append-assoc}
-use mathlib.Core.Bool.{Bool, true, false, _&&_, _||_, cond}
+use mathlib.Core.Bool.{Bool, true, false, _||_}
 use mathlib.Core.Option.{Option, some, none}
 use Prim.Native.Nat.{ℕ, zero, suc, _+_, _-_, _%_, _/_, _<_, _≤_}
 use native.Mathlib.Omega.{arith}
@@ -20,28 +20,31 @@ use Rattle.book.specs.Book.{next, finish, judge, nothing, verdict}
 use Rattle.book.specs.Find.{find, locate}
 use Rattle.book.specs.Sound.{All, nil, cons}
 use Rattle.path_rules.specs.Paths.{askedPath}
-use Rattle.strings.specs.Strings.{stringRule}
 use Rattle.tsconfig.specs.Parsed.{Parsed, parsed}
 use Rattle.tsconfig.specs.Claims.{claimsOwnership, solution}
 use Rattle.tsconfig.specs.Build.{Settings}
 use Rattle.tsconfig.specs.Mapping.{candidates, tries}
 use Rattle.tsconfig.proofs.Tries.{candidates-lead}
-use Rattle.tsconfig_resolver.specs.Find.{recordAt, pathsOf, reached, seen}
-use Rattle.tsconfig_resolver.specs.Project.{Project, Owner, loadRecord, loadFound, loadPath, ownerOf, ownerFrom, ownerAt, owned, folders, siteAt}
+use Rattle.tsconfig_resolver.specs.Find.{pathsOf, reached, seen}
+use Rattle.tsconfig_resolver.specs.Project.{Project, Owner, loadRecord, loadFound, loadPath, ownerOf, ownerFrom, ownerAt, owned, folders}
 use Rattle.tsconfig_resolver.specs.Line.{line, entriesOf}
 use Rattle.tsconfig_resolver.proofs.Inside.{Fits, find-below, locate-below}
 use Rattle.rows.specs.Records.{recordsOf, parsedOf}
 use Rattle.rows.proofs.Books.{accepted-small}
 use Rattle.tsconfig.specs.Laid.{laid}
-use Rattle.questions.specs.Questions.{Outcome, Reply, fit, asked, listed, book, build, owner, ownerReply, tsconfigBuild, tsconfigOwner, tsconfigCandidates, tsconfigTries, returned, output}
-use Rattle.questions.specs.Replies.{numbersOf, Told, buildOf, buildReply, pathsBy, pathsFrom, askedFor, askPaths, tsconfigPaths}
+use Rattle.replies.specs.Replies.{Outcome, Reply, fit, listed, returned, output, numbersOf, Told}
+use Rattle.build_reply.specs.Reply.{buildReply}
+use Rattle.paths_reply.specs.Paths.{pathsBy}
+use Rattle.questions.specs.Questions.{asked, book, build, owner, ownerReply, tsconfigBuild, tsconfigOwner, tsconfigCandidates, tsconfigTries}
+use Rattle.questions.specs.Replies.{buildOf, pathsFrom, askedFor, askPaths, tsconfigPaths}
 use Rattle.questions.specs.Numbered.{Numbered}
 use Rattle.questions.specs.Demand3.{flatSite, Inherits}
 use Rattle.questions.specs.Promises.{Loads, flatListing, flatAfter, BuildInherits, PathsInherit, CandidatesInherit, TriesInherit, OneStory, OwnerInherits, Passed}
-use Rattle.questions.specs.declared.Numbers.{Numbers}
-use Rattle.questions.proofs.Demand3.{refused-given, given-same, then-given, inherits, inherits-asked}
+use Rattle.replies.specs.declared.Numbers.{Numbers}
+use Rattle.questions.proofs.Demand3.{refused-given, given-same, then-given, inherits}
 use Rattle.questions.proofs.Numbered.{build-numbered, owner-numbered, candidates-numbered, tries-numbered}
-use Rattle.questions.proofs.Replies.{listedReply, candidates-paths, tries-paths}
+use Rattle.replies.proofs.Replies.{listedReply}
+use Rattle.questions.proofs.Replies.{candidates-paths, tries-paths}
 
 none-some : {A : Type 0} (o : A) → none ≡ some o → ⊥
 none-some o x = let z : _≡_ {A = ℕ} 0 1 = cc in omega (arith, z)

@@ -1,101 +1,41 @@
 -- The ways out of the entries. Assumes nothing.
-use mathlib.Core.Path.{_≡_, refl, sym, ap, ap₂, subst, _∙_}
-use mathlib.Core.List.{List, [], _∷_, _++_, map}
+use mathlib.Core.Path.{_≡_, refl, sym, ap, subst, _∙_}
+use mathlib.Core.List.{List, [], _∷_}
 use mathlib.Core.Bool.{Bool, true, false, true≢false, _&&_, cond}
 use mathlib.Core.Option.{Option, some, none}
-use Prim.Native.Nat.{ℕ, _+_, _^_, _≤_, _<_}
+use Prim.Native.Nat.{ℕ, _≤_}
 use native.Mathlib.Omega.{arith}
-use lib.ListN.{length, take, drop, length-take}
-use lib.Seq.{length-take-le}
-use lib.Dec.{ltb, leb}
-use borrow.Author.Tests.{lt-ltb, le-ltb, leb-true}
+use lib.ListN.{length, take, length-take}
+use lib.Dec.{leb}
+use borrow.Author.Tests.{leb-true}
 use Rattle.text.specs.Bytes.{Text}
-use Rattle.emit.specs.Emit.{written, Room, Emits, Holds}
-use Rattle.emit.proofs.Emits.{written-whole, emits-length, emits-holds}
-use Rattle.book.specs.Answer.{Answer, refused, given, _>>=_}
+use Rattle.emit.specs.Emit.{Holds}
+use Rattle.book.specs.Answer.{refused, given, _>>=_}
 use Rattle.book.specs.Book.{verdict}
 use Rattle.book.specs.declared.Cmd.{Cmd}
 use Rattle.book.specs.Find.{locate}
 use Rattle.path_rules.specs.Paths.{askedPath}
 use Rattle.strings.specs.Strings.{stringRule}
-use Rattle.tsconfig.specs.Parsed.{Parsed, parsed}
+use Rattle.tsconfig.specs.Parsed.{Parsed}
 use Rattle.tsconfig_resolver.specs.Find.{pathsOf}
-use Rattle.tsconfig_resolver.specs.Project.{Project, Owner, loadRecord, loadFound, loadPath, ownerOf}
-use Rattle.rows.specs.Records.{recordsOf, parsedOf}
-use Rattle.questions.specs.Questions.{Outcome, Reply, fit, listed, asked, book, build, candidatesOf, owner, ownerReply, tsconfigBuild, tsconfigOwner, tsconfigCandidates, tsconfigTries, triesOf, returned, output}
-use Rattle.questions.specs.Replies.{numbersOf, Told, buildReply, buildOf, pathsBy, askedFor, askPaths, tsconfigPaths, Ready, OpenedBy, Opens}
+use Rattle.tsconfig_resolver.specs.Project.{Project, loadRecord, loadFound, loadPath, ownerOf}
+use Rattle.rows.specs.Records.{recordsOf}
+use Rattle.replies.specs.Replies.{Outcome, returned, numbersOf}
+use Rattle.questions.specs.Questions.{asked, book, build, candidatesOf, owner, ownerReply, tsconfigBuild, tsconfigOwner, tsconfigCandidates, tsconfigTries, triesOf}
+use Rattle.questions.specs.Replies.{buildOf, askedFor, askPaths, tsconfigPaths, Ready, OpenedBy, Opens}
 use Rattle.questions.specs.declared.Opening.{Opening}
 use Rattle.questions.specs.declared.Opening.the-variants as opening
-use Rattle.text.specs.declared.Found.{Found}
 use Rattle.book.specs.Index.{AcceptedAs, JudgedAs}
 use Rattle.book.specs.declared.Judged.{Judged}
 use Rattle.book.specs.declared.Judged.the-variants as judged
-use Rattle.tsconfig.specs.Build.{Settings}
-use Rattle.tsconfig.specs.Mapping.{candidates, tries}
-use Rattle.tsconfig.specs.Listing.{listing}
-use Rattle.mapping.specs.declared.Listed.{Listed}
-use Rattle.mapping.specs.Targets.{Lists}
-use Rattle.tsconfig.specs.Laid.{laid}
-use Rattle.tsconfig_resolver.specs.Find.{recordAt}
-use Rattle.rows.specs.Rows.{numberOf, siteOf, Row}
+use Rattle.rows.specs.Rows.{siteOf}
 use Rattle.references.specs.References.{sitesOf, Opened, WholeAs}
 use Rattle.references.specs.declared.Whole.{Whole}
 use Rattle.references.specs.declared.Whole.the-variants as whole
 use Rattle.owner.specs.Owned.{answered}
 use Rattle.owner.specs.declared.Owned.{Owned}
 use Rattle.owner.specs.declared.Owned.the-variants as owned
-use Rattle.questions.specs.declared.Numbers.{Numbers}
-
--- A refusal
-
-pub refused-numbers : (r : Numbers) (k p : ℕ) → r .number ≡ k → r .place ≡ p → r .first ≡ 0 → r .second ≡ 0 → r .bytes ≡ 0 → numbersOf r ≡ returned (refused k p)
-unfolding returned
-refused-numbers r k p a b c d e = rw (a, b, c, d, e) refl
-
--- output kept, and the numbers of a refusal
-pub told-refused : (o : Outcome) (r : Numbers) (old new : Text) (k p : ℕ) → o ≡ refused k p → numbersOf r ≡ returned (refused k p) → new ≡ old → Told o r old new
-unfolding output
-told-refused o r old new k p e n u = record { numbers = n ∙ sym (ap returned e); bytes = u ∙ sym (ap (λ (x : Outcome). output x old) e) }
-
--- What the scratch holds of a text, where it is long enough, is the text
-
-pub part-room : (k : ℕ) (scratch : Text) → k ≤ length scratch → k < 2 ^ 63 → Room 0 (take k scratch)
-part-room k scratch h s = record { room = omega (arith, s, length-take-le k scratch h) }
-
-module _ (x in-scratch scratch : Text) (k : ℕ) (made : Emits x in-scratch 0 scratch k) (h : k ≤ length scratch) where
-  pub scratch-holds : take k scratch ≡ x
-  scratch-holds = emits-holds x in-scratch scratch 0 k (omega (arith, h, made .next, emits-length x in-scratch 0 scratch k made)) made .bytes
-
-  pub scratch-copied : (old new : Text) (n : ℕ) → Emits (take k scratch) old 0 new n → Emits x old 0 new n
-  scratch-copied old new n p = subst (λ (t : Text). Emits t old 0 new n) scratch-holds p
-
--- A reply that fits, or not: counted first, then written
-
-module _ (reply : Reply) (old : Text) (k : ℕ) (none-in none-out : Text) (counted : Emits (reply .bytes) none-in 0 none-out k) where
-  counts : k ≡ length (reply .bytes)
-  counts = omega (arith, counted .next)
-
-  pub fit-short : length old < k → fit (length old) reply ≡ refused 13 k
-  unfolding fit
-  fit-short h = rw (lt-ltb (length old) (length (reply .bytes)) (omega (arith, h, counts))) (ap (refused 13) (sym counts))
-
-  module _ (h : k ≤ length old) (new : Text) (n : ℕ) (wrote : Emits (reply .bytes) old 0 new n) where
-    fit-given : fit (length old) reply ≡ given reply
-    unfolding fit
-    fit-given = rw (le-ltb (length old) (length (reply .bytes)) (omega (arith, h, counts))) refl
-
-    pub told-given : (r : Numbers) (first second : ℕ) → numbersOf r ≡ 0 ∷ 0 ∷ first ∷ second ∷ n ∷ [] → first ≡ reply .first → second ≡ reply .second → Told (fit (length old) reply) r old new
-    unfolding returned output
-    told-given r first second e a b =
-        let z : n ≡ length (reply .bytes) = omega (arith, wrote .next) in
-        record {
-          numbers = e ∙ rw (a, b, z, fit-given) refl;
-          bytes = wrote .text ∙ written-whole (reply .bytes) old (omega (arith, h, counts)) ∙ sym (ap (λ (x : Outcome). output x old) fit-given);
-        }
-
--- the reply of candidates
-abbrev pub listedReply : List Text → Reply
-listedReply ts = record { first = length ts; second = 0; bytes = laid ts }
+use Rattle.replies.specs.declared.Numbers.{Numbers}
 
 -- The asked path, the config that it means, and its load
 
@@ -120,9 +60,6 @@ after-refused rs c k p after e = rw e refl
 
 pub after-given : (rs : List Parsed) (c : ℕ) (p : Project) (after : Project → Outcome) → loadRecord rs c ≡ given p → (loadRecord rs c >>= after) ≡ after p
 after-given rs c p after e = rw e refl
-
-pub told-as : (a b : Outcome) (r : Numbers) (old new : Text) → a ≡ b → Told b r old new → Told a r old new
-told-as a b r old new e t = record { numbers = t .numbers ∙ sym (ap returned e); bytes = t .bytes ∙ sym (ap (λ (x : Outcome). output x old) e) }
 
 -- The book first
 
@@ -207,28 +144,6 @@ module _ (buffer base : Text) (len : ℕ) (h : Holds len buffer base) (b : Text)
   pub base-short : length buffer ≡ 1600 → length b ≤ 1600
   base-short l = omega (arith, l, ap length e, length-take len buffer)
 
--- The listing
-
-pub listing-bytes : (rs : List Parsed) (row : List ℕ) (m : ℕ) → listing (recordAt rs (numberOf row) .references) ((siteOf rs row) .config) ≡ (buildReply rs (siteOf rs row) m) .bytes
-unfolding siteOf
-listing-bytes rs row m = refl
-
-pub emits-listing : (rs : List Parsed) (row : List ℕ) (m : ℕ) (o : Text) (at : ℕ) (u : Text) (k : ℕ) → Emits (listing (recordAt rs (numberOf row) .references) ((siteOf rs row) .config)) o at u k → Emits ((buildReply rs (siteOf rs row) m) .bytes) o at u k
-emits-listing rs row m o at u k h = subst (λ (x : Text). Emits x o at u k) (listing-bytes rs row m) h
-
-pub site-numbered : (rs : List Parsed) (row : List ℕ) → numberOf row ≡ (siteOf rs row) .number
-unfolding siteOf
-site-numbered rs row = refl
-
--- the paths laid out
-pub listed-fit : (room : ℕ) (ts : List Text) → listed room ts ≡ fit room (record { first = length ts; second = 0; bytes = laid ts })
-unfolding listed
-listed-fit room ts = refl
-
--- the output as it was
-pub kept-told : (o : Outcome) (r : Numbers) (old : Text) (k p : ℕ) → o ≡ refused k p → numbersOf r ≡ returned (refused k p) → Told o r old old
-kept-told o r old k p e n = told-refused o r old old k p e n refl
-
 -- The owner, which lends no output
 
 module _ (rs : List Parsed) (path : Text) where
@@ -259,15 +174,6 @@ module _ (commands text : Text) (begins starts lens : List ℕ) (r : Judged) (w 
 
   pub judged-yes : (n : ℕ) → r ≡ judged.Yes n → AcceptedAs commands text begins starts lens n
   judged-yes n e = subst (JudgedAs commands text begins starts lens) e w
-
--- The paths of C or T
-
-module _ (tried : Bool) (directory specifier : Text) (c : Settings) (o : Text) (at : ℕ) (u : Text) (l : Listed) where
-  pub paths-tried : tried ≡ true → Lists (tries c directory specifier) o at u l → Lists (pathsBy tried directory specifier c) o at u l
-  paths-tried e y = rw e y
-
-  pub paths-mapped : tried ≡ false → Lists (candidates c specifier) o at u l → Lists (pathsBy tried directory specifier c) o at u l
-  paths-mapped e y = rw e y
 
 -- Whether C or T may be asked
 

@@ -1,13 +1,13 @@
 -- The code holds for each field the record that supplies it. So: each value of a loaded config is what its supplier says, and so is the base.
-use mathlib.Core.Path.{_≡_, refl, sym, ap, _∙_, subst}
+use mathlib.Core.Path.{_≡_, refl, sym, subst}
 use mathlib.Core.List.{List, [], _∷_}
 use mathlib.Core.Option.{Option, some, none, Option·map, Option·getD}
 use Prim.Native.Nat.{ℕ}
 use lib.ListN.{getD}
 use Rattle.text.specs.Bytes.{Text}
-use Rattle.tsconfig.specs.Config.{Field, baseUrl, paths, Config, _orElse_, first, last, baseIf}
+use Rattle.tsconfig.specs.Config.{Field, baseUrl, paths, _orElse_, first, baseIf}
 use Rattle.tsconfig.specs.Parsed.{Value, Parsed}
-use Rattle.tsconfig_resolver.specs.Line.{line, above}
+use Rattle.tsconfig_resolver.specs.Line.{line}
 use Rattle.tsconfig_resolver.specs.Load.{Loaded}
 use Rattle.tsconfig_resolver.specs.Demand3.{LineRule}
 use Rattle.tsconfig_resolver.specs.Find.{Supplied, SuppliedValue, blank, seen}

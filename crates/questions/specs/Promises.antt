@@ -1,9 +1,9 @@
 -- Demand 3 over what the entries promise: from the numbers that a C function returns and the output that it leaves to the line rule, for every book
 -- and every question that is not refused. What is quoted are demand 3's sentences.
 use mathlib.Core.Path.{_≡_}
-use mathlib.Core.List.{List, [], _∷_, _++_}
+use mathlib.Core.List.{List, _++_}
 use mathlib.Core.Bool.{true, false}
-use mathlib.Core.Option.{Option, some, none}
+use mathlib.Core.Option.{some}
 use Prim.Native.Nat.{ℕ, _+_, _<_}
 use lib.ListN.{length, take, drop}
 use Rattle.text.specs.Bytes.{Text}
@@ -11,7 +11,7 @@ use Rattle.names.specs.Names.{tsconfigJson}
 use Rattle.join.specs.Join.{pushOf}
 use Rattle.book.specs.Answer.{given}
 use Rattle.book.specs.Find.{find, locate}
-use Rattle.tsconfig.specs.Claims.{Site, claimsOwnership, solution}
+use Rattle.tsconfig.specs.Claims.{claimsOwnership, solution}
 use Rattle.tsconfig.specs.Listing.{listing}
 use Rattle.tsconfig.specs.Build.{Settings}
 use Rattle.tsconfig.specs.Mapping.{candidates, tries, afterCandidates}
@@ -19,10 +19,9 @@ use Rattle.tsconfig.specs.Parsed.{Parsed}
 use Rattle.tsconfig_resolver.specs.Line.{line, entriesOf}
 use Rattle.tsconfig_resolver.specs.Find.{recordAt, pathsOf, seen}
 use Rattle.tsconfig_resolver.specs.Project.{Project, loadRecord}
-use Rattle.rows.specs.Records.{recordsOf}
 use Rattle.tsconfig.specs.Laid.{laid}
 use Rattle.questions.specs.Demand3.{flatSite, Inherits}
-use Rattle.questions.specs.declared.Numbers.{Numbers}
+use Rattle.replies.specs.declared.Numbers.{Numbers}
 
 module _ (rs : List Parsed) where
   -- the record c loads without refusal, and what it gives is the flat config's

@@ -1,9 +1,8 @@
 -- What the entries answer, in the words of the definitions.
 use mathlib.Core.Path.{_≡_}
-use mathlib.Core.List.{List, [], _∷_}
+use mathlib.Core.List.{List}
 use mathlib.Core.Bool.{Bool, true, _&&_, cond}
 use Prim.Native.Nat.{ℕ}
-use lib.ListN.{length}
 use Rattle.text.specs.Bytes.{Text}
 use Rattle.emit.specs.Emit.{Holds}
 use Rattle.path_rules.specs.Paths.{askedPath}
@@ -12,28 +11,13 @@ use Rattle.book.specs.Answer.{refused, given, _>>=_}
 use Rattle.rows.specs.Rows.{Row, siteOf}
 use Rattle.tsconfig.specs.Parsed.{Parsed}
 use Rattle.tsconfig.specs.Claims.{Site}
-use Rattle.tsconfig.specs.Listing.{listing}
-use Rattle.tsconfig.specs.Build.{Settings}
-use Rattle.tsconfig.specs.Mapping.{candidates, tries}
-use Rattle.tsconfig_resolver.specs.Find.{recordAt}
 use Rattle.tsconfig_resolver.specs.Project.{Project, loadRecord, loadPath}
-use Rattle.questions.specs.Questions.{Outcome, Reply, fit, asked, listed, book, returned, output}
-use Rattle.questions.specs.declared.Numbers.{Numbers}
+use Rattle.replies.specs.Replies.{Outcome, fit, listed}
+use Rattle.build_reply.specs.Reply.{buildReply}
+use Rattle.paths_reply.specs.Paths.{pathsBy}
+use Rattle.questions.specs.Questions.{asked, book}
 use Rattle.questions.specs.declared.Opening.{Opening}
 use Rattle.questions.specs.declared.Opening.the-variants as opening
-
--- the returned struct as 01's numbers
-abbrev pub numbersOf : Numbers → List ℕ
-numbersOf r = r .number ∷ r .place ∷ r .first ∷ r .second ∷ r .bytes ∷ []
-
--- the numbers returned and the lent output, before and after, are the outcome's
-pub record Told (o : Outcome) (r : Numbers) (old new : Text) : Type 0 where
-  pub numbers : numbersOf r ≡ returned o
-  pub bytes : new ≡ output o old
-
--- the reply of a build
-abbrev pub buildReply : List Parsed → Site → ℕ → Reply
-buildReply rs s m = record { first = s .number; second = m; bytes = listing (recordAt rs (s .number) .references) (s .config) }
 
 -- what a build makes of a loaded config
 abbrev pub buildOf : List Parsed → ℕ → Project → Outcome
@@ -42,10 +26,6 @@ buildOf rs room p = fit room (buildReply rs (p .site) (p .merges))
 -- what is made of the record c, once it is loaded
 abbrev pub loadedThen : List Parsed → ℕ → (Project → Outcome) → Outcome
 loadedThen rs c then = loadRecord rs c >>= then
-
--- the paths that are asked for: the tries from a directory, or the candidates
-abbrev pub pathsBy : Bool → Text → Text → Settings → List Text
-pathsBy tried directory specifier c = cond tried (tries c directory specifier) (candidates c specifier)
 
 -- what they are of a loaded config
 abbrev pub pathsFrom : Bool → Text → Text → ℕ → Project → Outcome

@@ -1,122 +1,32 @@
 // The questions, as C functions on numbers and byte slices.
 use book::Judged;
+use build_reply::write_listing;
 use checker::check_tables;
-use emit::put_text;
-use listing::put_listing;
-use mapping::Listed;
-use mapping::put_candidates;
 use owner::Owned;
 use owner::find_owner;
 use path_rules::is_asked_path;
+use paths_reply::write_paths;
 use records::locate;
 use references::Whole;
 use references::load_record;
+use replies::Numbers;
+use replies::give;
+use replies::refuse;
 use sites::site_base;
-use sites::site_number;
 use strings::is_string;
 use text::Found;
 use text::upto;
-use tries::put_tries;
 ghost use mathlib.Core.Path.{_≡_};
-ghost use mathlib.Core.List.{[], _∷_};
 ghost use mathlib.Core.Bool.{true};
-ghost use Rattle.mapping.specs.Asks.{configAt, Asks};
-ghost use Rattle.mapping.specs.Targets.{Lists};
-ghost use Prim.Native.Nat.{_<_, _≤_, _^_};
-ghost use lib.ListN.{length, take};
-ghost use Rattle.emit.specs.Emit.{Emits};
-ghost use Rattle.book.specs.Answer.{refused};
-ghost use Rattle.rows.specs.Rows.{Row, siteOf};
+ghost use Prim.Native.Nat.{_<_, _≤_};
+ghost use lib.ListN.{length};
 ghost use Rattle.rows.specs.Records.{Records, Paths, recordsOf};
-ghost use Rattle.questions.specs.Questions.{fit, returned, build, owner, listed, tsconfigBuild, tsconfigOwner, tsconfigCandidates, tsconfigTries};
-ghost use Rattle.questions.specs.Replies.{numbersOf, Told, buildReply, buildOf, pathsBy, pathsFrom, askPaths, askedFor, tsconfigPaths, loadedThen, Opens};
+ghost use Rattle.replies.specs.Replies.{returned, numbersOf, Told};
+ghost use Rattle.questions.specs.Questions.{build, owner, tsconfigBuild, tsconfigOwner, tsconfigCandidates, tsconfigTries};
+ghost use Rattle.questions.specs.Replies.{buildOf, pathsFrom, askPaths, askedFor, tsconfigPaths, loadedThen, Opens};
 
 // What stands for no record.
 const NOBODY: usize = 65535;
-
-// The refusal's number and place, or 0 and 0 with the answer's two numbers and the bytes written.
-#[repr(C)]
-pub struct Numbers {
-    pub number: u64,
-    pub place: u64,
-    pub first: u64,
-    pub second: u64,
-    pub bytes: u64,
-}
-
-fn refuse(number: u32, place: usize) -> Numbers
-    ensures { λ r. ⌜ numbersOf r ≡ returned (refused number place) ⌝ }
-{
-    Numbers {
-        number: number as u64,
-        place: place as u64,
-        first: 0,
-        second: 0,
-        bytes: 0,
-    }
-}
-
-// An answer without output.
-fn give(first: usize, second: usize) -> Numbers
-    ensures { λ r. ⌜ numbersOf r ≡ 0 ∷ 0 ∷ first ∷ second ∷ 0 ∷ [] ⌝ }
-{
-    Numbers {
-        number: 0,
-        place: 0,
-        first: first as u64,
-        second: second as u64,
-        bytes: 0,
-    }
-}
-
-// An answer with its output.
-fn reply(first: usize, second: usize, bytes: usize) -> Numbers
-    ensures { λ r. ⌜ numbersOf r ≡ 0 ∷ 0 ∷ first ∷ second ∷ bytes ∷ [] ⌝ }
-{
-    Numbers {
-        number: 0,
-        place: 0,
-        first: first as u64,
-        second: second as u64,
-        bytes: bytes as u64,
-    }
-}
-
-// The first n bytes of the scratch, copied to the start of the output.
-fn copy_out(scratch: &[u8], n: usize, out: &mut [u8]) -> usize
-    requires { ⌜ (n ≤ length (now scratch)) × (n < 2 ^ 63) ⌝ }
-    ensures { λ r. ⌜ Emits (take n (now (scratch .entry))) (now (out .entry)) 0 (now (out .exit)) r ⌝ }
-{
-    put_text(out, 0, &scratch[..n])
-}
-
-// The listing of a row's config, where it fits the output. It is written to the scratch first, which counts it, and from there to the output; where
-// the scratch is too short it is written once more.
-fn write_listing(
-    commands: &[u8],
-    text: &[u8],
-    begins: &[usize],
-    row: &[u8],
-    base: &[u8],
-    merges: usize,
-    scratch: &mut [u8],
-    out: &mut [u8],
-) -> Numbers
-    requires { ⌜ Records (now commands) (now text) (now begins) × (Row (recordsOf (now commands) (now text)) (now row) × ((now base ≡ (siteOf (recordsOf (now commands) (now text)) (now row)) .config .base) × (length (now base) ≤ 1600))) ⌝ }
-    ensures { λ r. ⌜ Told (fit (length (now (out .entry))) (buildReply (recordsOf (now (commands .entry)) (now (text .entry))) (siteOf (recordsOf (now (commands .entry)) (now (text .entry))) (now (row .entry))) merges)) r (now (out .entry)) (now (out .exit)) ⌝ }
-{
-    let need = put_listing(commands, text, begins, row, base, scratch, 0);
-    if out.len() < need {
-        return refuse(13, need);
-    }
-    let number = site_number(row);
-    if need <= scratch.len() {
-        let bytes = copy_out(scratch, need, out);
-        return reply(number, merges, bytes);
-    }
-    let bytes = put_listing(commands, text, begins, row, base, out, 0);
-    reply(number, merges, bytes)
-}
 
 // What is told of a record that is opened: a refusal's number and place, or the merges made and the length of its config's base.
 pub enum Opening {
@@ -234,89 +144,6 @@ pub extern "C" fn tsconfig_build(
         Judged::No(k, p) => return refuse(k, p),
         Judged::Yes(n) => return build(commands, text, &begins, &starts, &lens, n, path, out),
     }
-}
-
-// The paths that are asked for: the tries from the directory where `tried` is said, else the candidates.
-fn put_paths(
-    tried: bool,
-    commands: &[u8],
-    text: &[u8],
-    begins: &[usize],
-    row: &[u8],
-    base: &[u8],
-    directory: &[u8],
-    specifier: &[u8],
-    out: &mut [u8],
-    at: usize,
-) -> Listed
-    requires { ⌜ Asks (now commands) (now text) (now begins) (now row) (now base) (now specifier) at × (tried ≡ true → length (now directory) ≤ 512) ⌝ }
-    ensures { λ r. ⌜ Lists (pathsBy tried (now (directory .entry)) (now (specifier .entry)) (configAt (now (commands .entry)) (now (text .entry)) (now (row .entry)))) (now (out .entry)) at (now (out .exit)) r ⌝ }
-{
-    if tried {
-        return put_tries(
-            commands,
-            text,
-            begins,
-            row,
-            base,
-            directory,
-            specifier,
-            out,
-            at,
-        );
-    }
-    put_candidates(commands, text, begins, row, base, specifier, out, at)
-}
-
-// The paths of a row's config, where they fit the output. They are written to the scratch first, as a listing is.
-fn write_paths(
-    tried: bool,
-    commands: &[u8],
-    text: &[u8],
-    begins: &[usize],
-    row: &[u8],
-    base: &[u8],
-    directory: &[u8],
-    specifier: &[u8],
-    scratch: &mut [u8],
-    out: &mut [u8],
-) -> Numbers
-    requires { ⌜ Asks (now commands) (now text) (now begins) (now row) (now base) (now specifier) 0 × (tried ≡ true → length (now directory) ≤ 512) ⌝ }
-    ensures { λ r. ⌜ Told (listed (length (now (out .entry))) (pathsBy tried (now (directory .entry)) (now (specifier .entry)) (configAt (now (commands .entry)) (now (text .entry)) (now (row .entry))))) r (now (out .entry)) (now (out .exit)) ⌝ }
-{
-    let counted = put_paths(
-        tried,
-        commands,
-        text,
-        begins,
-        row,
-        base,
-        directory,
-        specifier,
-        scratch,
-        0,
-    );
-    let size = counted.at;
-    if out.len() < size {
-        return refuse(13, size);
-    }
-    if size <= scratch.len() {
-        let bytes = copy_out(scratch, size, out);
-        return reply(counted.count, 0, bytes);
-    }
-    let wrote = put_paths(
-        tried,
-        commands,
-        text,
-        begins,
-        row,
-        base,
-        directory,
-        specifier,
-        out,
-        0,
-    );
-    reply(wrote.count, 0, wrote.at)
 }
 
 // The paths of the record c.

@@ -33,7 +33,7 @@ fn same_names(s: &[u8], field: &[u8]) -> bool {
     let mut at = 0;
     let mut k = 0;
     while k < field.len() {
-        let Part::Span(a, e) = components::next_component(s, at) else {
+        let Part::Span(a, e) = component_walk::next_component(s, at) else {
             return false;
         };
         let listed = part_before(from(field, k), MARK);
@@ -50,7 +50,7 @@ fn same_names(s: &[u8], field: &[u8]) -> bool {
         }
         at = e + 1;
     }
-    match components::next_component(s, at) {
+    match component_walk::next_component(s, at) {
         Part::Span(_, _) => false,
         Part::Missing => true,
     }
@@ -83,16 +83,16 @@ fn one_agrees(line: &[u8]) -> bool {
     if !same_components(s, part_before(l3, TAB)) {
         return false;
     }
-    if !agrees(s, ends::file_name(s), part_before(l4, TAB)) {
+    if !agrees(s, file_names::file_name(s), part_before(l4, TAB)) {
         return false;
     }
-    if !agrees(s, ends::extension(s), part_before(l5, TAB)) {
+    if !agrees(s, file_names::extension(s), part_before(l5, TAB)) {
         return false;
     }
     if normal::is_normal(s) != is_yes(part_before(l6, TAB)) {
         return false;
     }
-    components::inside_node_modules(s) == is_yes(l7)
+    component_walk::inside_node_modules(s) == is_yes(l7)
 }
 
 // Whether `a` joined with b is what a field says.
@@ -149,7 +149,7 @@ fn two_agrees(line: &[u8]) -> bool {
 // A line of glob.txt: pattern, path, whether it matches.
 fn glob_agrees(line: &[u8]) -> bool {
     let l2 = part_after(line, TAB);
-    glob::matches(part_before(line, TAB), part_before(l2, TAB)) == is_yes(part_after(l2, TAB))
+    matcher::matches(part_before(line, TAB), part_before(l2, TAB)) == is_yes(part_after(l2, TAB))
 }
 
 // Which list.

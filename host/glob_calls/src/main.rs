@@ -1,4 +1,4 @@
-//! Counts the calls of the recursive matcher of `crates/glob`, and looks for the accepted pattern that takes most.
+//! Counts the calls of the recursive matcher of `crates/matcher`, and looks for the accepted pattern that takes most.
 //!
 //! `cargo run --release -- [ROUNDS]` runs the hand-made families and then ROUNDS rounds of hill climbing from each of the
 //! best of them (default 20000), and prints the worst pattern and path found with their count.
@@ -23,7 +23,7 @@ enum Front {
 
 use Verdict::*;
 
-/// The code of `crates/glob/src/lib.rt`, function by function, with a count of the calls of `glob`, the function that calls
+/// The code of `crates/glob` and `crates/matcher`, function by function, with a count of the calls of `glob`, the function that calls
 /// itself, and one of the bytes that the loops pass.
 struct Counter {
     calls: u64,

@@ -19,8 +19,8 @@ use Rattle.load.proofs.walk.Kinds as walk-kinds
 use Rattle.load.proofs.+bring+load+walk.Lts-walk as walk-lts
 use Rattle.entries.proofs.open_record.Reads as open-record-reads
 use Rattle.load.proofs.wide.Reads as wide-reads
-use Rattle.rows.proofs.merge_row.Reads as merge-row-reads
-use Rattle.rows.proofs.store_row.Reads as store-row-reads
+use Rattle.merge.proofs.merge_row.Reads as merge-row-reads
+use Rattle.merge.proofs.store_row.Reads as store-row-reads
 use Rattle.text.proofs.upto.Reads as upto-reads
 use Rattle.load.proofs.+bring+load+walk.{statement}
 use Rattle.load.proofs.+bring+load+walk.Tie.{close}

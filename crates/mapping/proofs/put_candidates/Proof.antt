@@ -6,7 +6,7 @@ use Rattle.mapping.proofs.put_candidates.Tie as tie
 use Rattle.mapping.proofs.put_candidates.Reads as reads
 use Rattle.mapping.proofs.put_candidates.Lts as lts
 use Rattle.mapping.proofs.put_aliases.Reads as put-aliases-reads
-use Rattle.mapping.proofs.put_read.Reads as put-read-reads
+use Rattle.targets.proofs.put_read.Reads as put-read-reads
 use Rattle.rows.proofs.begin_at.Reads as begin-at-reads
 
 site-dir-requires : tie.Need-site-dir-requires

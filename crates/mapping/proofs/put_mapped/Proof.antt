@@ -6,9 +6,9 @@ use Rattle.mapping.proofs.put_mapped.Reads as reads
 use Rattle.mapping.proofs.put_mapped.Lts as lts
 use Rattle.book.proofs.string_of.Reads as string-of-reads
 use Rattle.keys.proofs.key_match.Reads as key-match-reads
-use Rattle.mapping.proofs.best_key.Reads as best-key-reads
-use Rattle.mapping.proofs.equal_key.Reads as equal-key-reads
-use Rattle.mapping.proofs.put_targets.Reads as put-targets-reads
+use Rattle.choice.proofs.best_key.Reads as best-key-reads
+use Rattle.choice.proofs.equal_key.Reads as equal-key-reads
+use Rattle.targets.proofs.put_targets.Reads as put-targets-reads
 
 equal-key-requires : tie.Need-equal-key-requires
 equal-key-requires c κs = search needs

@@ -17,8 +17,8 @@ use Rattle.owner.proofs.find_owner.Tie as tie
 use Rattle.owner.proofs.find_owner.Reads as reads
 use Rattle.owner.proofs.find_owner.Lts as lts
 use Rattle.owner.proofs.owned_in.Reads as owned-in-reads
-use Rattle.components.proofs.count_components.Reads as count-components-reads
-use Rattle.components.proofs.inside_node_modules.Reads as inside-node-modules-reads
+use Rattle.component_walk.proofs.count_components.Reads as count-components-reads
+use Rattle.component_walk.proofs.inside_node_modules.Reads as inside-node-modules-reads
 use Rattle.ends.proofs.parent_len.Reads as parent-len-reads
 use Rattle.text.proofs.upto.Reads as upto-reads
 

@@ -1,7 +1,7 @@
 use lib.ListN.{length}
 use Rattle.rows.proofs.Books.{accepted, accepted-paths}
-use Rattle.questions.proofs.Replies.{judged-no, judged-yes, kept-told, told-as, paths-refused, paths-accepted}
-use native.Mathlib.Omega.{arith}
+use Rattle.questions.proofs.Replies.{judged-no, judged-yes, paths-refused, paths-accepted}
+use Rattle.replies.proofs.Replies.{kept-told, told-as}
 use borrow.Author.Needs.{needs}
 use Rattle.questions.proofs.answer_paths.Statement.{statement}
 use Rattle.questions.proofs.answer_paths.Tie as tie
@@ -9,7 +9,7 @@ use Rattle.questions.proofs.answer_paths.Reads as reads
 use Rattle.questions.proofs.answer_paths.Lts as lts
 use Rattle.checker.proofs.check_tables.Reads as check-tables-reads
 use Rattle.questions.proofs.paths.Reads as paths-reads
-use Rattle.questions.proofs.refuse.Reads as refuse-reads
+use Rattle.replies.proofs.refuse.Reads as refuse-reads
 
 slice-aggregate-check-tables : tie.Need-slice-aggregate-check-tables
 slice-aggregate-check-tables c = search needs

@@ -1,27 +1,20 @@
-use mathlib.Core.Path.{refl, sym, ap, subst, _∙_}
-use mathlib.Core.Option.{some, none}
+use mathlib.Core.Path.{sym, ap, _∙_}
 use lib.ListN.{length}
 use borrow.Author.Tests.{not-true, not-false}
-use Rattle.records.specs.Items.{pathTable, foundNumber}
+use Rattle.records.specs.Items.{foundNumber}
 use Rattle.records.proofs.Paths.{locate-within}
 use Rattle.book.specs.Find.{locate}
-use Rattle.path_rules.specs.Paths.{askedPath}
-use Rattle.strings.specs.Strings.{stringRule}
-use Rattle.tsconfig.specs.Mapping.{candidates}
 use Rattle.rows.specs.Records.{recordsOf}
-use Rattle.rows.specs.Rows.{siteOf}
-use Rattle.rows.proofs.Books.{accepted, accepted-paths}
-use Rattle.questions.specs.Replies.{buildReply, buildOf}
-use Rattle.questions.proofs.Replies.{kept-told, told-as, build-steps, asked-not, asked-missing, asked-found}
-use native.Mathlib.Omega.{arith}
-use borrow.Author.Needs.{needs}
+use Rattle.questions.specs.Replies.{buildOf}
+use Rattle.replies.proofs.Replies.{kept-told, told-as}
+use Rattle.questions.proofs.Replies.{build-steps, asked-not, asked-missing, asked-found}
 use borrow.Author.Needs.{needs}
 use Rattle.questions.proofs.build.Statement.{statement}
 use Rattle.questions.proofs.build.Tie as tie
 use Rattle.questions.proofs.build.Reads as reads
 use Rattle.questions.proofs.build.Lts as lts
 use Rattle.questions.proofs.build_record.Reads as build-record-reads
-use Rattle.questions.proofs.refuse.Reads as refuse-reads
+use Rattle.replies.proofs.refuse.Reads as refuse-reads
 use Rattle.records.proofs.locate.Reads as locate-reads
 use Rattle.path_rules.proofs.is_asked_path.Reads as is-asked-path-reads
 

@@ -1,28 +1,16 @@
-use mathlib.Core.Path.{refl, sym, ap, subst, _∙_}
-use mathlib.Core.Option.{some, none}
 use lib.ListN.{length}
-use borrow.Author.Tests.{not-true, not-false}
-use Rattle.records.specs.Items.{pathTable, foundNumber}
-use Rattle.records.proofs.Paths.{locate-within}
-use Rattle.book.specs.Find.{locate}
-use Rattle.path_rules.specs.Paths.{askedPath}
-use Rattle.strings.specs.Strings.{stringRule}
-use Rattle.tsconfig.specs.Mapping.{candidates}
 use Rattle.rows.specs.Records.{recordsOf}
-use Rattle.rows.specs.Rows.{siteOf}
-use Rattle.rows.proofs.Books.{accepted, accepted-paths}
-use Rattle.questions.specs.Replies.{buildReply, buildOf}
-use Rattle.questions.proofs.Replies.{kept-told, told-as, after-not, after-ready, ready, base-same, base-short}
-use native.Mathlib.Omega.{arith}
-use borrow.Author.Needs.{needs}
+use Rattle.questions.specs.Replies.{buildOf}
+use Rattle.replies.proofs.Replies.{kept-told, told-as}
+use Rattle.questions.proofs.Replies.{after-not, after-ready, ready, base-same, base-short}
 use borrow.Author.Needs.{needs}
 use Rattle.questions.proofs.build_record.Statement.{statement}
 use Rattle.questions.proofs.build_record.Tie as tie
 use Rattle.questions.proofs.build_record.Reads as reads
 use Rattle.questions.proofs.build_record.Lts as lts
 use Rattle.questions.proofs.open_site.Reads as open-site-reads
-use Rattle.questions.proofs.refuse.Reads as refuse-reads
-use Rattle.questions.proofs.write_listing.Reads as write-listing-reads
+use Rattle.replies.proofs.refuse.Reads as refuse-reads
+use Rattle.build_reply.proofs.write_listing.Reads as write-listing-reads
 use Rattle.text.proofs.upto.Reads as upto-reads
 
 slice-aggregate-open-site : tie.Need-slice-aggregate-open-site

@@ -1,6 +1,5 @@
 use borrow.Author.Tests.{not-true, not-false}
 use Rattle.questions.proofs.Replies.{path-not, without-directory, with-directory, directory-not}
-use native.Mathlib.Omega.{arith}
 use borrow.Author.Needs.{needs}
 use Rattle.questions.proofs.is_asked.Statement.{statement}
 use Rattle.questions.proofs.is_asked.Tie as tie

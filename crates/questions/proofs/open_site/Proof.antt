@@ -1,20 +1,6 @@
-use mathlib.Core.Path.{refl, sym, ap, subst, _∙_}
-use mathlib.Core.Option.{some, none}
-use lib.ListN.{length}
-use borrow.Author.Tests.{not-true, not-false}
-use Rattle.records.specs.Items.{pathTable, foundNumber}
-use Rattle.records.proofs.Paths.{locate-within}
-use Rattle.book.specs.Find.{locate}
-use Rattle.path_rules.specs.Paths.{askedPath}
-use Rattle.strings.specs.Strings.{stringRule}
-use Rattle.tsconfig.specs.Mapping.{candidates}
 use Rattle.rows.specs.Records.{recordsOf}
-use Rattle.rows.specs.Rows.{siteOf}
-use Rattle.rows.proofs.Books.{accepted, accepted-paths}
-use Rattle.questions.specs.Replies.{buildReply, buildOf}
 use Rattle.questions.proofs.Replies.{opens-refused, opened, opens-ready}
 use native.Mathlib.Omega.{arith}
-use borrow.Author.Needs.{needs}
 use borrow.Author.Needs.{needs}
 use Rattle.questions.proofs.open_site.Statement.{statement}
 use Rattle.questions.proofs.open_site.Tie as tie

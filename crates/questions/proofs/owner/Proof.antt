@@ -1,29 +1,16 @@
-use mathlib.Core.Path.{refl, sym, ap, subst, _∙_}
-use mathlib.Core.Option.{some, none}
-use lib.ListN.{length}
+use mathlib.Core.Path.{sym, ap, _∙_}
 use borrow.Author.Tests.{not-true, not-false}
-use Rattle.records.specs.Items.{pathTable, foundNumber}
-use Rattle.records.proofs.Paths.{locate-within}
-use Rattle.book.specs.Find.{locate}
-use Rattle.path_rules.specs.Paths.{askedPath}
-use Rattle.strings.specs.Strings.{stringRule}
-use Rattle.tsconfig.specs.Mapping.{candidates}
 use Rattle.rows.specs.Records.{recordsOf}
-use Rattle.rows.specs.Rows.{siteOf}
-use Rattle.rows.proofs.Books.{accepted, accepted-paths}
-use Rattle.questions.specs.Replies.{buildReply, buildOf}
 use Rattle.questions.proofs.Replies.{owner-not, owner-refuses, owner-nobody, owner-found}
-use Rattle.questions.specs.Questions.{returned}
-use native.Mathlib.Omega.{arith}
-use borrow.Author.Needs.{needs}
+use Rattle.replies.specs.Replies.{returned}
 use borrow.Author.Needs.{needs}
 use Rattle.questions.proofs.owner.Statement.{statement}
 use Rattle.questions.proofs.owner.Tie as tie
 use Rattle.questions.proofs.owner.Reads as reads
 use Rattle.questions.proofs.owner.Lts as lts
 use Rattle.owner.proofs.find_owner.Reads as find-owner-reads
-use Rattle.questions.proofs.give.Reads as give-reads
-use Rattle.questions.proofs.refuse.Reads as refuse-reads
+use Rattle.replies.proofs.give.Reads as give-reads
+use Rattle.replies.proofs.refuse.Reads as refuse-reads
 use Rattle.path_rules.proofs.is_asked_path.Reads as is-asked-path-reads
 
 is-asked-path-requires : tie.Need-is-asked-path-requires

@@ -1,4 +1,4 @@
-use mathlib.Core.Path.{refl, sym, ap, _∙_}
+use mathlib.Core.Path.{sym, ap, _∙_}
 use lib.ListN.{length}
 use borrow.Author.Tests.{not-true, not-false}
 use Rattle.records.specs.Items.{foundNumber}
@@ -6,8 +6,8 @@ use Rattle.records.proofs.Paths.{locate-within}
 use Rattle.book.specs.Find.{locate}
 use Rattle.rows.specs.Records.{recordsOf}
 use Rattle.questions.specs.Replies.{pathsFrom}
-use Rattle.questions.proofs.Replies.{kept-told, told-as, asked-not, asked-missing, asked-found, specifier-short, directory-short}
-use native.Mathlib.Omega.{arith}
+use Rattle.replies.proofs.Replies.{kept-told, told-as}
+use Rattle.questions.proofs.Replies.{asked-not, asked-missing, asked-found, specifier-short, directory-short}
 use borrow.Author.Needs.{needs}
 use Rattle.questions.proofs.paths.Statement.{statement}
 use Rattle.questions.proofs.paths.Tie as tie
@@ -15,7 +15,7 @@ use Rattle.questions.proofs.paths.Reads as reads
 use Rattle.questions.proofs.paths.Lts as lts
 use Rattle.questions.proofs.is_asked.Reads as is-asked-reads
 use Rattle.questions.proofs.paths_record.Reads as paths-record-reads
-use Rattle.questions.proofs.refuse.Reads as refuse-reads
+use Rattle.replies.proofs.refuse.Reads as refuse-reads
 use Rattle.records.proofs.locate.Reads as locate-reads
 
 is-asked-requires : tie.Need-is-asked-requires

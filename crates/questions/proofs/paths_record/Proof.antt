@@ -1,7 +1,8 @@
 use lib.ListN.{length}
 use Rattle.rows.specs.Records.{recordsOf}
 use Rattle.questions.specs.Replies.{pathsFrom}
-use Rattle.questions.proofs.Replies.{kept-told, told-as, after-not, after-ready, ready, base-same, base-short}
+use Rattle.replies.proofs.Replies.{kept-told, told-as}
+use Rattle.questions.proofs.Replies.{after-not, after-ready, ready, base-same, base-short}
 use native.Mathlib.Omega.{arith}
 use borrow.Author.Needs.{needs}
 use Rattle.questions.proofs.paths_record.Statement.{statement}
@@ -9,8 +10,8 @@ use Rattle.questions.proofs.paths_record.Tie as tie
 use Rattle.questions.proofs.paths_record.Reads as reads
 use Rattle.questions.proofs.paths_record.Lts as lts
 use Rattle.questions.proofs.open_site.Reads as open-site-reads
-use Rattle.questions.proofs.refuse.Reads as refuse-reads
-use Rattle.questions.proofs.write_paths.Reads as write-paths-reads
+use Rattle.replies.proofs.refuse.Reads as refuse-reads
+use Rattle.paths_reply.proofs.write_paths.Reads as write-paths-reads
 use Rattle.text.proofs.upto.Reads as upto-reads
 
 slice-aggregate-open-site : tie.Need-slice-aggregate-open-site

@@ -1,6 +1,6 @@
 use lib.ListN.{length}
-use Rattle.questions.proofs.Replies.{told-as, tries-paths}
-use native.Mathlib.Omega.{arith}
+use Rattle.replies.proofs.Replies.{told-as}
+use Rattle.questions.proofs.Replies.{tries-paths}
 use borrow.Author.Needs.{needs}
 use Rattle.questions.proofs.tsconfig_tries.Statement.{statement}
 use Rattle.questions.proofs.tsconfig_tries.Tie as tie

@@ -9,7 +9,7 @@ use Rattle.references.proofs.copy_row.Tie as tie
 use Rattle.references.proofs.copy_row.Reads as reads
 use Rattle.references.proofs.copy_row.Lts as lts
 use Rattle.book.proofs.piece.Reads as piece-reads
-use Rattle.rows.proofs.store_row.Reads as store-row-reads
+use Rattle.merge.proofs.store_row.Reads as store-row-reads
 
 mul-piece : tie.Need-mul-piece
 mul-piece c = search needs

@@ -7,7 +7,7 @@ use Rattle.replay.proofs.same_names.Statement.{statement}
 use Rattle.replay.proofs.same_names.Tie as tie
 use Rattle.replay.proofs.same_names.Reads as reads
 use Rattle.replay.proofs.same_names.Lts as lts
-use Rattle.components.proofs.next_component.Reads as next-component-reads
+use Rattle.component_walk.proofs.next_component.Reads as next-component-reads
 use Rattle.text.proofs.between.Reads as between-reads
 use Rattle.text.proofs.from.Reads as from-reads
 use Rattle.text.proofs.part_before.Reads as part-before-reads

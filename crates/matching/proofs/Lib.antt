@@ -1,0 +1,3 @@
+-- Laws of what is matched.
+pub mod Patterns
+pub mod Sizes

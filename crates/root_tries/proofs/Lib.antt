@@ -1,0 +1,3 @@
+-- Laws of the definitions of what is tried.
+pub mod Others
+pub mod Rests
