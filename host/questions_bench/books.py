@@ -110,6 +110,40 @@ def wide(count):
     return book, [f'B {last}/tsconfig.json', f'O {last}/src/a/b.ts', f'C {last}/tsconfig.json\t@p{count - 1:02}k05/x', f'C {last}/tsconfig.json\tother/x']
 
 
+def preset(book):
+    """The config that the base of a layered book extends: flags and text options."""
+    book.put(1, '/repo/tsconfig.preset.json')
+    for id in range(4):
+        book.lone(18, id, 1)
+    for id, value in ((0, 'react-jsx'), (4, 'node'), (5, 'esnext')):
+        start, n = len(book.text), len(value)
+        book.text += value.encode()
+        book.lone(19, id, start % 256, start // 256, n % 256, n // 256)
+    book.lone(20)
+
+
+def layered(one, count, before):
+    """Packages that extend a base, which extends a preset; each refers to those before it, so many."""
+    book = Book()
+    preset(book)
+    book.put(1, '/repo/tsconfig.base.json')
+    book.put(8, './tsconfig.preset.json')
+    book.put(9, '.')
+    book.lone(10)
+    for name in ('shared', 'filters', 'stations', 'levels'):
+        book.put(11, f'@{name}/*')
+        book.put(12, f'packages/{name}/src/*')
+    book.lone(20)
+    for n in range(count):
+        one(book, n)
+        end = book.commands.pop()
+        for other in range(max(0, n - before), n):
+            book.put(13, f'../part-{other:02}')
+        book.lone(end)
+    last = f'/repo/packages/part-{count - 1:02}'
+    return book, [f'B {last}/tsconfig.json', f'O {last}/src/a/b.ts', f'C {last}/tsconfig.json\t@filters/x', f'C {last}/tsconfig.json\tother/x']
+
+
 def large(book, n, extends=('../../tsconfig.base.json',)):
     book.put(1, f'/repo/packages/part-{n:02}/tsconfig.json')
     for entry in extends:
@@ -130,11 +164,20 @@ def large(book, n, extends=('../../tsconfig.base.json',)):
     book.lone(20)
 
 
-def ladder(book, n):
+def ladder(book, n, rest=()):
     book.put(1, f'/repo/rung-{n:02}.json')
     for before in (n - 1, n - 2):
         if before >= 0:
             book.put(8, f'./rung-{before:02}.json')
+    if rest:
+        book.lone(4)
+        book.put(5, 'src/**/*')
+        book.lone(6)
+        book.put(7, 'dist')
+        book.lone(10)
+        for name in rest:
+            book.put(11, f'@{name}-{n:02}/*')
+            book.put(12, f'packages/{name}-{n:02}/src/*')
     book.lone(20)
 
 
@@ -168,10 +211,15 @@ def alone():
 
 def main(folder):
     books = {'typical': packages(usual, 19), 'workspace': workspace(), 'limits': packages(large, 63), 'wide': wide(63)}
+    books |= {'layered': layered(usual, 18, 4), 'laden': layered(large, 62, 4)}
     rungs = Book()
     for n in range(60):
         ladder(rungs, n)
     books['ladder'] = rungs, ['B /repo/rung-59.json']
+    full = Book()
+    for n in range(60):
+        ladder(full, n, ('shared', 'filters', 'stations', 'levels'))
+    books['rungs'] = full, ['B /repo/rung-59.json']
     slow = Book()
     hostile(slow)
     books['hostile'] = slow, ['O ' + '/a' * 255]
