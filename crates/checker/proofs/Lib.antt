@@ -1,3 +1,2 @@
--- The laws of usual commands that are passed, and of the loop over the records.
-pub mod Passes
+-- The laws of the loop over the records.
 pub mod Books

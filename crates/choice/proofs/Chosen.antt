@@ -19,10 +19,10 @@ use Rattle.book.specs.Command.{key}
 use Rattle.book.specs.Rules.{textOf}
 use Rattle.book.specs.Record.{Key, is, targetsOf, keysOf}
 use Rattle.book.specs.Index.{recordAt}
-use Rattle.records.specs.declared.Item.{Item}
-use Rattle.records.specs.declared.Item.the-variants.{At, Missing}
-use Rattle.records.specs.Items.{itemOf}
-use Rattle.records.proofs.Items.{readFrom, got, keys-missing, keys-got}
+use Rattle.items.specs.declared.Item.{Item}
+use Rattle.items.specs.declared.Item.the-variants.{At, Missing}
+use Rattle.items.specs.Items.{itemOf}
+use Rattle.items.proofs.Items.{readFrom, got, keys-missing, keys-got}
 use Rattle.tsconfig.specs.Mapping.{equalKey, prefixLen, longer, bestKey}
 use Rattle.choice.specs.Keyed.{leastOf}
 

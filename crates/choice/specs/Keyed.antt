@@ -7,8 +7,8 @@ use Rattle.text.specs.Text.{starOf}
 use Rattle.book.specs.Rules.{textOf}
 use Rattle.book.specs.Record.{Key, targetsOf}
 use Rattle.book.specs.Index.{recordAt}
-use Rattle.records.specs.declared.Item.{Item}
-use Rattle.records.specs.declared.Item.the-variants as item
+use Rattle.items.specs.declared.Item.{Item}
+use Rattle.items.specs.declared.Item.the-variants as item
 use Rattle.tsconfig.specs.Build.{adjusted}
 use Rattle.tsconfig.specs.Mapping.{prefixLen}
 

@@ -1,9 +1,9 @@
 // The key of `paths` that a specifier is mapped by: the equal one, or the best wildcard.
 use book::KEY;
 use book::string_of;
+use items::Item;
+use items::next_item;
 use keys::matches_at;
-use records::Item;
-use records::next_item;
 use text::Found;
 use text::find_star;
 use text::same_text;

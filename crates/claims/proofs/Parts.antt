@@ -17,10 +17,10 @@ use Rattle.book.specs.declared.Cmd.{Cmd}
 use Rattle.book.specs.Record.{strings}
 use Rattle.book.specs.Index.{recordAt}
 use Rattle.book.specs.Sound.{All, Good}
-use Rattle.records.specs.declared.Item.{Item}
-use Rattle.records.specs.declared.Item.the-variants as item
-use Rattle.records.specs.Items.{optionItem}
-use Rattle.records.proofs.Items.{readFrom, flag-missing, flag-got}
+use Rattle.items.specs.declared.Item.{Item}
+use Rattle.items.specs.declared.Item.the-variants as item
+use Rattle.items.specs.Items.{optionItem}
+use Rattle.items.proofs.Items.{readFrom, flag-missing, flag-got}
 use Rattle.tsconfig.specs.Config.{files, include, exclude, flag}
 use Rattle.tsconfig.specs.Build.{adjusted}
 use Rattle.tsconfig.specs.Claims.{Site, allowJs, allowed, outside, matched, included, excluded, namedFile, claims}

@@ -17,7 +17,7 @@ use Rattle.book.specs.declared.Cmd.{Cmd}
 use Rattle.book.specs.Record.{is, strings, listed, flagOf}
 use Rattle.book.specs.Index.{recordAt}
 use Rattle.book.specs.Sound.{All, Good}
-use Rattle.records.proofs.Items.{listed-is, listed-not}
+use Rattle.items.proofs.Items.{listed-is, listed-not}
 use Rattle.tsconfig.specs.Config.{Field, files, include, exclude, flag}
 use Rattle.tsconfig.specs.Parsed.{said}
 use Rattle.tsconfig.specs.Build.{adjusted, builtValue}

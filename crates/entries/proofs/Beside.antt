@@ -18,7 +18,7 @@ use Rattle.components.specs.declared.Piece.the-variants.{Name}
 use Rattle.components.proofs.Pieces.{piece-name, pieces-one}
 use Rattle.join.specs.Join.{pushOf, stepBy, stepOf, walkOf, normalizeWith}
 use Rattle.book.specs.Find.{find, locate}
-use Rattle.records.specs.Items.{foundNumber}
+use Rattle.records.specs.Paths.{foundNumber}
 use Rattle.records.proofs.Paths.{locate-own}
 use Rattle.entries.specs.Codes.{isNothing, isBeside}
 

@@ -14,7 +14,7 @@ use Rattle.book.specs.Command.{extends, reference}
 use Rattle.book.specs.Record.{strings, recordPathOf}
 use Rattle.book.specs.Index as index
 use Rattle.book.specs.Find.{locate}
-use Rattle.records.specs.Items.{pathTable}
+use Rattle.records.specs.Paths.{pathTable}
 use Rattle.records.proofs.Paths.{path-row}
 use Rattle.tsconfig.specs.Parsed.{Parsed, parsed, parse}
 use Rattle.tsconfig_resolver.specs.Line.{Entry}

@@ -25,10 +25,11 @@ use Rattle.book.specs.Record.{is, only, firstOf, strings, single, recordPathOf}
 use Rattle.book.specs.Index.{recordAt}
 use Rattle.book.specs.Sound.{All, cons, Good, Sound}
 use Rattle.book.specs.Find.{locate}
-use Rattle.records.specs.declared.Item.{Item}
-use Rattle.records.specs.declared.Item.the-variants as item
-use Rattle.records.specs.Items.{pathTable, foundNumber, itemOf}
-use Rattle.records.proofs.Items.{readFrom, Got, got, strings-missing, strings-got, only-got}
+use Rattle.items.specs.declared.Item.{Item}
+use Rattle.items.specs.declared.Item.the-variants as item
+use Rattle.items.specs.Items.{itemOf}
+use Rattle.records.specs.Paths.{pathTable, foundNumber}
+use Rattle.items.proofs.Items.{readFrom, Got, got, strings-missing, strings-got, only-got}
 use Rattle.records.proofs.Paths.{locate-within}
 use Rattle.tsconfig_resolver.specs.Line.{Entry, empty, bare, missing, leads}
 use Rattle.tsconfig_resolver.specs.Load.{unread}

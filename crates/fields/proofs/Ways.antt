@@ -13,10 +13,10 @@ use Rattle.book.specs.Rules.{textOf}
 use Rattle.book.specs.Record.{Key, strings}
 use Rattle.book.specs.Index.{recordAt}
 use Rattle.book.specs.Sound.{All, Good}
-use Rattle.records.specs.declared.Item.{Item}
-use Rattle.records.specs.declared.Item.the-variants.{At, Missing}
-use Rattle.records.specs.Items.{itemOf}
-use Rattle.records.proofs.Items.{readFrom, strings-missing, strings-got, single-missing, single-got, keys-missing, keys-got}
+use Rattle.items.specs.declared.Item.{Item}
+use Rattle.items.specs.declared.Item.the-variants.{At, Missing}
+use Rattle.items.specs.Items.{itemOf}
+use Rattle.items.proofs.Items.{readFrom, strings-missing, strings-got, single-missing, single-got, keys-missing, keys-got}
 use Rattle.values.proofs.Reading.{dir-short}
 use Rattle.tsconfig.specs.Build.{adjusted}
 use Rattle.tsconfig.specs.Listing.{row, rows, items, mapping, keyRows, ifNamed}

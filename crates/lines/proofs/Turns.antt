@@ -12,10 +12,10 @@ use Rattle.book.specs.Rules.{textOf}
 use Rattle.book.specs.Record.{Key, is, strings, keysOf, targetsOf}
 use Rattle.book.specs.Index.{recordAt}
 use Rattle.book.specs.Sound.{All, Good}
-use Rattle.records.specs.declared.Item.{Item}
-use Rattle.records.specs.declared.Item.the-variants.{At, Missing}
-use Rattle.records.specs.Items.{itemOf, targetItem}
-use Rattle.records.proofs.Items.{readFrom, Got, got, Aimed, aimed, strings-missing, strings-got, keys-missing, keys-got, targets-missing, targets-got}
+use Rattle.items.specs.declared.Item.{Item}
+use Rattle.items.specs.declared.Item.the-variants.{At, Missing}
+use Rattle.items.specs.Items.{itemOf, targetItem}
+use Rattle.items.proofs.Items.{readFrom, Got, got, Aimed, aimed, strings-missing, strings-got, keys-missing, keys-got, targets-missing, targets-got}
 use Rattle.values.proofs.Reading.{got-rest, got-short, aimed-rest, aimed-short}
 use Rattle.tsconfig.specs.Build.{adjusted}
 use Rattle.tsconfig.specs.Listing.{row, rows, keyRows}

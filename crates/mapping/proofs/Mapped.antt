@@ -18,8 +18,8 @@ use Rattle.book.specs.Rules.{textOf}
 use Rattle.book.specs.Record.{Key, is, targetsOf, keysOf}
 use Rattle.book.specs.Index.{recordAt}
 use Rattle.book.specs.Sound.{All, nil, cons, Good}
-use Rattle.records.specs.declared.Item.{Item}
-use Rattle.records.specs.declared.Item.the-variants.{At, Missing}
+use Rattle.items.specs.declared.Item.{Item}
+use Rattle.items.specs.declared.Item.the-variants.{At, Missing}
 use Rattle.tsconfig.specs.Build.{adjusted}
 use Rattle.tsconfig.specs.Mapping.{equalKey, longer, bestKey, filled, fromBest, fromEqual, fromPaths}
 use Rattle.values.proofs.Lengths.{targets-length}

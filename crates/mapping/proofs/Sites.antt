@@ -21,7 +21,7 @@ use Rattle.book.specs.Command as command
 use Rattle.book.specs.Record.{is, keysOf, mapping}
 use Rattle.book.specs.Index.{recordAt}
 use Rattle.book.specs.Sound.{All, Good}
-use Rattle.records.proofs.Items.{mapping-is, mapping-not}
+use Rattle.items.proofs.Items.{mapping-is, mapping-not}
 use Rattle.tsconfig.specs.Config.{Field, baseUrl, paths}
 use Rattle.tsconfig.specs.Parsed.{placedValue, said}
 use Rattle.tsconfig.specs.Build.{Settings, builtValue}

@@ -2,8 +2,8 @@
 use book::string_of;
 use choice::best_key;
 use choice::equal_key;
+use items::Item;
 use keys::key_match;
-use records::Item;
 use rows::begin_at;
 use sites::site_dir;
 use targets::Listed;

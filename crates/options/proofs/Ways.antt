@@ -14,10 +14,10 @@ use Rattle.text.specs.declared.Found.the-variants as found
 use Rattle.book.specs.declared.Cmd.{Cmd}
 use Rattle.book.specs.Command as command
 use Rattle.book.specs.Rules.{textOf}
-use Rattle.records.specs.declared.Item.{Item}
-use Rattle.records.specs.declared.Item.the-variants.{At, Missing}
-use Rattle.records.specs.Items.{optionItem}
-use Rattle.records.proofs.Items.{readFrom, flag-missing, flag-got, option-missing, option-got}
+use Rattle.items.specs.declared.Item.{Item}
+use Rattle.items.specs.declared.Item.the-variants.{At, Missing}
+use Rattle.items.specs.Items.{optionItem}
+use Rattle.items.proofs.Items.{readFrom, flag-missing, flag-got, option-missing, option-got}
 use Rattle.tsconfig.specs.Listing.{row, decimal, ifNamed, flagRow, textRow}
 use Rattle.rows.specs.Rows.{beginAt}
 use Rattle.options.specs.Options.{flagAt, textAt, Reaches, flagsFrom, textsFrom, optionsPart}

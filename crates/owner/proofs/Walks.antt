@@ -36,7 +36,7 @@ use Rattle.references.specs.declared.Whole.{Whole}
 use Rattle.references.specs.declared.Whole.the-variants as whole
 use Rattle.text.specs.declared.Found.{Found}
 use Rattle.text.specs.declared.Found.the-variants.{At, Nothing}
-use Rattle.records.specs.Items.{pathTable, foundNumber}
+use Rattle.records.specs.Paths.{pathTable, foundNumber}
 use Rattle.records.proofs.Paths.{find-within}
 
 -- What claims the path

@@ -16,7 +16,7 @@ ghost use Rattle.names.specs.Names.{tsconfigJson};
 ghost use Rattle.join.specs.Join.{pushOf};
 ghost use Rattle.book.specs.Answer.{given};
 ghost use Rattle.book.specs.Find.{find};
-ghost use Rattle.records.specs.Items.{foundNumber};
+ghost use Rattle.records.specs.Paths.{foundNumber};
 ghost use Rattle.tsconfig_resolver.specs.Find.{pathsOf};
 ghost use Rattle.tsconfig_resolver.specs.Project.{ownerOf};
 ghost use Rattle.rows.specs.Rows.{Row, siteOf};

@@ -25,7 +25,7 @@ use Rattle.text.proofs.Picks.{by-test}
 use Rattle.book.specs.Record.{recordPathOf}
 use Rattle.book.specs.Index.{AcceptedAs}
 use Rattle.book.specs.Find.{find, isDir, configPath, locate}
-use Rattle.records.specs.Items.{rowsFrom, pathTable, foundNumber}
+use Rattle.records.specs.Paths.{rowsFrom, pathTable, foundNumber}
 use Rattle.records.specs.Looks.{Unlike, Passed}
 
 -- Comparing with p and then a tail

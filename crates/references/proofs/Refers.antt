@@ -23,10 +23,11 @@ use Rattle.book.specs.Command.{reference}
 use Rattle.book.specs.Record.{is, only, strings}
 use Rattle.book.specs.Index as index
 use Rattle.book.specs.Sound.{All, Good, Sound}
-use Rattle.records.specs.declared.Item.{Item}
-use Rattle.records.specs.declared.Item.the-variants as item
-use Rattle.records.specs.Items.{foundNumber, itemOf}
-use Rattle.records.proofs.Items.{readFrom, Got, got, strings-missing, strings-got, only-got}
+use Rattle.items.specs.declared.Item.{Item}
+use Rattle.items.specs.declared.Item.the-variants as item
+use Rattle.items.specs.Items.{itemOf}
+use Rattle.records.specs.Paths.{foundNumber}
+use Rattle.items.proofs.Items.{readFrom, Got, got, strings-missing, strings-got, only-got}
 use Rattle.tsconfig.specs.Parsed.{Parsed}
 use Rattle.tsconfig.specs.Claims.{Site}
 use Rattle.tsconfig_resolver.specs.Line.{Entry}

@@ -18,10 +18,10 @@ use Rattle.book.specs.Rules.{textOf}
 use Rattle.book.specs.Record.{is, only, strings}
 use Rattle.book.specs.Index.{recordAt}
 use Rattle.book.specs.Sound.{All, cons, Good}
-use Rattle.records.specs.declared.Item.{Item}
-use Rattle.records.specs.declared.Item.the-variants.{At, Missing}
-use Rattle.records.specs.Items.{itemOf}
-use Rattle.records.proofs.Items.{readFrom}
+use Rattle.items.specs.declared.Item.{Item}
+use Rattle.items.specs.declared.Item.the-variants.{At, Missing}
+use Rattle.items.specs.Items.{itemOf}
+use Rattle.items.proofs.Items.{readFrom}
 use Rattle.tsconfig.specs.Laid.{laid}
 use Rattle.tsconfig.specs.Mapping.{inRoots}
 use Rattle.values.proofs.Reading.{good-short}

@@ -17,8 +17,8 @@ use Rattle.book.specs.Command as command
 use Rattle.book.specs.Rules.{textOf}
 use Rattle.book.specs.Index.{recordAt}
 use Rattle.book.specs.Sound.{All, Good}
-use Rattle.records.specs.declared.Item.{Item}
-use Rattle.records.specs.declared.Item.the-variants.{At, Missing}
+use Rattle.items.specs.declared.Item.{Item}
+use Rattle.items.specs.declared.Item.the-variants.{At, Missing}
 use Rattle.tsconfig.specs.Laid.{laid}
 use Rattle.tsconfig.specs.Mapping.{rootAbove, inRoots, fromRoot, rootTries}
 use Rattle.values.proofs.Reading.{dir-short}

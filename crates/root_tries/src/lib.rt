@@ -1,10 +1,10 @@
 // A path with its like in the other root dirs of a record.
 use book::ROOT_DIR;
 use book::string_of;
+use items::Item;
+use items::next_item;
 use path::same_path;
 use path::strip_prefix;
-use records::Item;
-use records::next_item;
 use roots::best_root;
 use targets::Listed;
 use targets::put_path;

@@ -10,8 +10,8 @@ use Rattle.book.specs.Record.{strings}
 use Rattle.book.specs.Rules.{textOf}
 use Rattle.book.specs.Index.{recordAt}
 use Rattle.book.specs.Sound.{All, Good}
-use Rattle.records.specs.declared.Item.{Item}
-use Rattle.records.specs.declared.Item.the-variants as item
+use Rattle.items.specs.declared.Item.{Item}
+use Rattle.items.specs.declared.Item.the-variants as item
 use Rattle.tsconfig.specs.Parsed.{placed}
 use Rattle.tsconfig.specs.Build.{substituted}
 use Rattle.tsconfig.specs.Mapping.{rootAbove}

@@ -1,9 +1,9 @@
 // The root dirs of a record, and the one that a path lies in.
 use book::ROOT_DIR;
 use book::string_of;
+use items::Item;
+use items::next_item;
 use path::lies_under;
-use records::Item;
-use records::next_item;
 use text::upto;
 use values::build_place;
 ghost use Rattle.roots.specs.Roots.{Rooted, BestRoot};

@@ -14,7 +14,7 @@ use Rattle.book.specs.Book.{verdict}
 use Rattle.book.specs.Index as index
 use Rattle.book.specs.Sound.{Sound}
 use Rattle.book.specs.Record.{recordPathOf}
-use Rattle.records.specs.Items.{pathTable}
+use Rattle.records.specs.Paths.{pathTable}
 use Rattle.tsconfig.specs.Config.{Field}
 use Rattle.tsconfig.specs.Parsed.{Value, Parsed, parsed, said}
 use Rattle.tsconfig_resolver.specs.Find.{recordAt, pathsOf}

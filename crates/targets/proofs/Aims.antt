@@ -16,10 +16,10 @@ use Rattle.book.specs.Rules.{textOf}
 use Rattle.book.specs.Record.{targetsOf}
 use Rattle.book.specs.Index.{recordAt}
 use Rattle.book.specs.Sound.{All, cons}
-use Rattle.records.specs.declared.Item.{Item}
-use Rattle.records.specs.declared.Item.the-variants.{At, Missing}
-use Rattle.records.specs.Items.{targetItem}
-use Rattle.records.proofs.Items.{readFrom, aimed, targets-missing, targets-got}
+use Rattle.items.specs.declared.Item.{Item}
+use Rattle.items.specs.declared.Item.the-variants.{At, Missing}
+use Rattle.items.specs.Items.{targetItem}
+use Rattle.items.proofs.Items.{readFrom, aimed, targets-missing, targets-got}
 use Rattle.tsconfig.specs.Build.{adjusted}
 use Rattle.tsconfig.specs.Mapping.{filled, filledAt}
 use Rattle.values.proofs.Lengths.{adjusted-length, record-length, targets-length}

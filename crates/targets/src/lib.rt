@@ -2,9 +2,9 @@
 use book::string_of;
 use emit::put;
 use emit::put_text;
+use items::Item;
+use items::next_target;
 use join::normalize_with;
-use records::Item;
-use records::next_target;
 use text::Found;
 use text::find_star;
 use text::from;

@@ -21,8 +21,8 @@ use Rattle.book.specs.Command as command
 use Rattle.book.specs.Record.{is, strings, listed}
 use Rattle.book.specs.Index.{recordAt}
 use Rattle.book.specs.Sound.{All, Good}
-use Rattle.records.specs.declared.Item.the-variants.{At}
-use Rattle.records.proofs.Items.{listed-is, listed-not}
+use Rattle.items.specs.declared.Item.the-variants.{At}
+use Rattle.items.proofs.Items.{listed-is, listed-not}
 use Rattle.tsconfig.specs.Config.{baseUrl, rootDirs}
 use Rattle.tsconfig.specs.Parsed.{placed, placedValue, said}
 use Rattle.tsconfig.specs.Build.{Settings, substituted, builtValue}

@@ -19,7 +19,7 @@ use Rattle.book.specs.Command.{command, key, target, end}
 use Rattle.book.specs.Rules.{textOf}
 use Rattle.book.specs.Record.{is, only, strings, targetsOf, keysOf}
 use Rattle.book.specs.Index.{upToEnd, recordAt}
-use Rattle.records.proofs.Items.{readFrom, by-reading}
+use Rattle.items.proofs.Items.{readFrom, by-reading}
 use Rattle.tsconfig.specs.Parsed.{placed}
 use Rattle.tsconfig.specs.Build.{withoutSlashes, inConfigDir, substituted, adjusted}
 

@@ -23,10 +23,10 @@ use Rattle.book.specs.Sound.{All, cons, Good}
 use Rattle.emit.specs.Emit.{Holds}
 use Rattle.tsconfig.specs.Parsed.{placed, ownBase}
 use Rattle.tsconfig.specs.Build.{substituted}
-use Rattle.records.specs.declared.Item.{Item}
-use Rattle.records.specs.declared.Item.the-variants.{At, Missing}
-use Rattle.records.specs.Items.{itemBy, itemOf, targetItem}
-use Rattle.records.proofs.Items.{readFrom, got, aimed, single-missing, single-got}
+use Rattle.items.specs.declared.Item.{Item}
+use Rattle.items.specs.declared.Item.the-variants.{At, Missing}
+use Rattle.items.specs.Items.{itemBy, itemOf, targetItem}
+use Rattle.items.proofs.Items.{readFrom, got, aimed, single-missing, single-got}
 
 -- The record's path
 

@@ -11,7 +11,7 @@ use Rattle.checker.proofs.check_records.Tie as tie
 use Rattle.checker.proofs.check_records.Reads as reads
 use Rattle.checker.proofs.check_records.Lts as lts
 use Rattle.book.proofs.piece.Reads as piece-reads
-use Rattle.checker.proofs.check_record.Reads as check-record-reads
+use Rattle.record_checker.proofs.check_record.Reads as check-record-reads
 use Rattle.checker.proofs.is_known_tame.Reads as is-known-tame-reads
 use Rattle.compare.proofs.digest.Reads as digest-reads
 use Rattle.text.proofs.from.Reads as from-reads

@@ -15,7 +15,7 @@ use Rattle.choice.proofs.best_key.Reads as reads
 use Rattle.choice.proofs.best_key.Lts as lts
 use Rattle.book.proofs.string_of.Reads as string-of-reads
 use Rattle.keys.proofs.matches_at.Reads as matches-at-reads
-use Rattle.records.proofs.next_item.Reads as next-item-reads
+use Rattle.items.proofs.next_item.Reads as next-item-reads
 use Rattle.text.proofs.find_star.Reads as find-star-reads
 
 abbrev Inv-loop : tie.InvT-loop

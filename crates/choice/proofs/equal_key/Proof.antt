@@ -9,7 +9,7 @@ use Rattle.choice.proofs.equal_key.Tie as tie
 use Rattle.choice.proofs.equal_key.Reads as reads
 use Rattle.choice.proofs.equal_key.Lts as lts
 use Rattle.book.proofs.string_of.Reads as string-of-reads
-use Rattle.records.proofs.next_item.Reads as next-item-reads
+use Rattle.items.proofs.next_item.Reads as next-item-reads
 use Rattle.text.proofs.same_text.Reads as same-text-reads
 
 abbrev Inv-loop : tie.InvT-loop

@@ -1,5 +1,5 @@
 use borrow.Author.Tests.{not-true, not-false}
-use Rattle.records.specs.Items.{pathTable}
+use Rattle.records.specs.Paths.{pathTable}
 use Rattle.entries.proofs.Entries.{entry-empty, entry-bare, entry-missing, entry-found, found-within}
 use native.Mathlib.Omega.{arith}
 use borrow.Author.Needs.{needs}

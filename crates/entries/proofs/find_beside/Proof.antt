@@ -1,5 +1,5 @@
 use borrow.Author.Tests.{not-true, not-false}
-use Rattle.records.specs.Items.{pathTable}
+use Rattle.records.specs.Paths.{pathTable}
 use Rattle.entries.proofs.Beside.{besides-none, besides-named}
 use native.Mathlib.Omega.{arith}
 use borrow.Author.Needs.{needs}

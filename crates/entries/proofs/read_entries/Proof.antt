@@ -1,7 +1,7 @@
 use Prim.Native.Nat.{_-_}
 use mathlib.Core.Path.{sym, ap, _∙_}
 use lib.ListN.{length}
-use Rattle.records.specs.Items.{pathTable}
+use Rattle.records.specs.Paths.{pathTable}
 use Rattle.entries.specs.Codes.{entryAt}
 use Rattle.entries.proofs.Entries.{Coding, coding-start, coding-end, coding-short, coding-room, coding-less, coding-on}
 use native.Mathlib.Omega.{arith}

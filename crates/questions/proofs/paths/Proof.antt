@@ -1,7 +1,7 @@
 use mathlib.Core.Path.{sym, ap, _∙_}
 use lib.ListN.{length}
 use borrow.Author.Tests.{not-true, not-false}
-use Rattle.records.specs.Items.{foundNumber}
+use Rattle.records.specs.Paths.{foundNumber}
 use Rattle.records.proofs.Paths.{locate-within}
 use Rattle.book.specs.Find.{locate}
 use Rattle.rows.specs.Records.{recordsOf}

@@ -1,5 +1,5 @@
 use Rattle.names.specs.Names.{tsconfigJson}
-use Rattle.records.specs.Items.{pathTable}
+use Rattle.records.specs.Paths.{pathTable}
 use Rattle.records.proofs.Paths.{named-in}
 use native.Mathlib.Omega.{arith}
 use borrow.Author.Needs.{needs}

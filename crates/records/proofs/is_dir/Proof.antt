@@ -1,5 +1,5 @@
 use borrow.Author.Tests.{not-true, not-false}
-use Rattle.records.specs.Items.{pathTable}
+use Rattle.records.specs.Paths.{pathTable}
 use Rattle.records.proofs.Paths.{dir-relative, dir-inside}
 use borrow.Author.Needs.{needs}
 use Rattle.records.proofs.is_dir.Statement.{statement}

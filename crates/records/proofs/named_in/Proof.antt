@@ -1,4 +1,4 @@
-use Rattle.records.specs.Items.{pathTable}
+use Rattle.records.specs.Paths.{pathTable}
 use Rattle.records.proofs.Paths.{slash-short, named-in}
 use native.Mathlib.Omega.{arith}
 use borrow.Author.Needs.{needs}

@@ -2,7 +2,7 @@ use mathlib.Core.Path.{_≡_, refl, _∙_}
 use Prim.Native.Nat.{_-_}
 use lib.ListN.{length}
 use Rattle.book.specs.Index.{recordAt}
-use Rattle.records.proofs.Items.{read-less}
+use Rattle.items.proofs.Items.{read-less}
 use Rattle.rows.specs.Own.{marked}
 use Rattle.rows.proofs.Own.{marks-end, marks-broken, marks-stop, marks-on}
 use borrow.Author.Needs.{needs}

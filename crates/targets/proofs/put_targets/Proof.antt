@@ -11,7 +11,7 @@ use Rattle.targets.proofs.put_targets.Reads as reads
 use Rattle.targets.proofs.put_targets.Lts as lts
 use Rattle.book.proofs.string_of.Reads as string-of-reads
 use Rattle.targets.proofs.put_target.Reads as put-target-reads
-use Rattle.records.proofs.next_target.Reads as next-target-reads
+use Rattle.items.proofs.next_target.Reads as next-target-reads
 
 abbrev Inv-loop : tie.InvT-loop
 Inv-loop out₀ at commands text next dir base fill part k₀ to₀ count₀ out k to count = Puts commands text dir base fill part at next out₀ out k to count

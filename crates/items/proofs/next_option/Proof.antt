@@ -1,11 +1,11 @@
 use Prim.Native.Nat.{_-_}
 use mathlib.Core.Path.{_≡_, refl, sym, _∙_}
 use lib.ListN.{length}
-use Rattle.records.proofs.Items.{readFrom, option-end, option-here, option-on, option-less}
-use Rattle.records.specs.Items.{optionItem}
+use Rattle.items.proofs.Items.{readFrom, option-end, option-here, option-on, option-less}
+use Rattle.items.specs.Items.{optionItem}
 use borrow.Author.Needs.{needs}
-use Rattle.records.proofs.next_option.Statement.{statement}
-use Rattle.records.proofs.next_option.Tie as tie
+use Rattle.items.proofs.next_option.Statement.{statement}
+use Rattle.items.proofs.next_option.Tie as tie
 
 abbrev Inv-loop : tie.InvT-loop
 Inv-loop commands at op id to₀ to = optionItem op id (readFrom commands to) ≡ optionItem op id (readFrom commands at)

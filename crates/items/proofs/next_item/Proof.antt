@@ -2,11 +2,11 @@ use Prim.Native.Nat.{_-_}
 use mathlib.Core.Path.{_≡_, refl, sym, _∙_}
 use lib.ListN.{length}
 use borrow.Author.Tests.{eq-eqb, ne-eqb}
-use Rattle.records.proofs.Items.{readFrom, item-end, item-broken, item-stop, item-here, item-on, read-less}
-use Rattle.records.specs.Items.{itemOf}
+use Rattle.items.proofs.Items.{readFrom, item-end, item-broken, item-stop, item-here, item-on, read-less}
+use Rattle.items.specs.Items.{itemOf}
 use borrow.Author.Needs.{needs}
-use Rattle.records.proofs.next_item.Statement.{statement}
-use Rattle.records.proofs.next_item.Tie as tie
+use Rattle.items.proofs.next_item.Statement.{statement}
+use Rattle.items.proofs.next_item.Tie as tie
 
 abbrev Inv-loop : tie.InvT-loop
 Inv-loop commands at op cursor₀ cursor = itemOf op (readFrom commands (cursor .at)) ≡ itemOf op (readFrom commands at)

@@ -3,12 +3,12 @@ use Prim.Native.Nat.{_-_}
 use lib.ListN.{length}
 use native.Mathlib.Omega.{arith}
 use Rattle.verdicts.proofs.Turns.{Sofar, sofar-none, turn-broken, turn-end, turn-refused, turn-met, turn-long, turn-closed, turn-on, turn-less, turn-place, byte-known, slot-small, slot-room, key-room, clear-on, rows-on}
-use Rattle.checker.proofs.Passes.{moved-on, stood}
+use Rattle.record_checker.proofs.Passes.{moved-on, stood}
 use borrow.Author.Needs.{needs}
-use Rattle.checker.proofs.check_record.Statement.{statement}
-use Rattle.checker.proofs.check_record.Tie as tie
-use Rattle.checker.proofs.check_record.Reads as reads
-use Rattle.checker.proofs.check_record.Lts as lts
+use Rattle.record_checker.proofs.check_record.Statement.{statement}
+use Rattle.record_checker.proofs.check_record.Tie as tie
+use Rattle.record_checker.proofs.check_record.Reads as reads
+use Rattle.record_checker.proofs.check_record.Lts as lts
 use Rattle.book.proofs.Cursor.step.Reads as step-reads
 use Rattle.book.proofs.fault_of.Reads as fault-of-reads
 use Rattle.book.proofs.push.Reads as push-reads

@@ -1,10 +1,10 @@
 use mathlib.Core.Path.{ap}
 use borrow.Author.Tests.{eq-eqb, ne-eqb}
 use mathlib.Core.Bool.{not}
-use Rattle.records.proofs.Items.{item-end, item-broken, item-stop, item-here}
+use Rattle.items.proofs.Items.{item-end, item-broken, item-stop, item-here}
 use borrow.Author.Needs.{needs}
-use Rattle.records.proofs.next_target.Statement.{statement}
-use Rattle.records.proofs.next_target.Tie as tie
+use Rattle.items.proofs.next_target.Statement.{statement}
+use Rattle.items.proofs.next_target.Tie as tie
 
 step-requires : tie.Need-step-requires
 step-requires c κs = search needs

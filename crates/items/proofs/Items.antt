@@ -21,9 +21,9 @@ use Rattle.book.specs.Record.{is, isId, only, firstOf, strings, single, listed,
 use Rattle.book.specs.Index.{upToEnd, recordAt}
 use Rattle.book.specs.Steps.{stepAt}
 use Rattle.book.proofs.Steps.{decoded, decode-step, Moved, step-moves}
-use Rattle.records.specs.declared.Item.{Item}
-use Rattle.records.specs.declared.Item.the-variants.{At, Missing}
-use Rattle.records.specs.Items.{offsetOf, itemTo, itemBy, itemOf, optionItem, targetItem}
+use Rattle.items.specs.declared.Item.{Item}
+use Rattle.items.specs.declared.Item.the-variants.{At, Missing}
+use Rattle.items.specs.Items.{offsetOf, itemTo, itemBy, itemOf, optionItem, targetItem}
 
 -- What is decoded, step by step
 

@@ -1,7 +1,7 @@
-use Rattle.records.proofs.Items.{named-not, named-is}
+use Rattle.items.proofs.Items.{named-not, named-is}
 use borrow.Author.Needs.{needs}
-use Rattle.records.proofs.is_named.Statement.{statement}
-use Rattle.records.proofs.is_named.Tie as tie
+use Rattle.items.proofs.is_named.Statement.{statement}
+use Rattle.items.proofs.is_named.Tie as tie
 
 next-item-requires : tie.Need-next-item-requires
 next-item-requires c κs = search needs

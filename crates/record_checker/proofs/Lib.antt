@@ -1,0 +1,2 @@
+-- The laws of usual commands that are passed.
+pub mod Passes
