@@ -14,7 +14,7 @@ use Rattle.strings.specs.Strings.{noneOf, plainByte, stringRule}
 use Rattle.strings.specs.Scan.{within, tameByte, tameText}
 use Rattle.strings.proofs.Gather.{or-none}
 
-and-left : (a b : Bool) → (a && b) ≡ true → a ≡ true
+pub and-left : (a b : Bool) → (a && b) ≡ true → a ≡ true
 and-left true b e = refl
 and-left false b e = e
 

@@ -1,38 +1,28 @@
 -- A command that fits is usual, and so is one without operands that comes for the first time. Assumes nothing.
 use mathlib.Core.Path.{_≡_, refl, sym, ap, subst, _∙_}
-use mathlib.Core.List.{List, [], _∷_}
+use mathlib.Core.List.{List, []}
 use mathlib.Core.Bool.{Bool, true, false, not, _&&_, _||_, cond, true≢false, or-true}
-use mathlib.Core.Option.{none}
-use Prim.Native.Nat.{ℕ, zero, suc, _+_, _-_, _≤_, _<_}
+use Prim.Native.Nat.{ℕ, _+_, _-_, _≤_, _<_}
 use native.Mathlib.Omega.{arith}
-use native.Mathlib.Nat.{add-zero}
-use lib.ListN.{length, getD, set, take, drop, length-set}
+use lib.ListN.{length, getD, set, drop, length-set}
 use lib.Seq.{drop-cons, getD-set-same, getD-set-other}
 use lib.Dec.{T, eqb, leb, ltb}
-use borrow.Author.Tests.{eq-eqb, ne-eqb, le-leb, lt-leb, eqb-true, eqb-false, leb-true, leb-false, ltb-true, lt-ltb}
+use borrow.Author.Tests.{eq-eqb, ne-eqb, le-leb, lt-leb, eqb-true, eqb-false, leb-false, ltb-true, lt-ltb}
 use Rattle.text.specs.Bytes.{Text}
 use Rattle.text.specs.Text.{eachOf}
 use Rattle.text.proofs.Picks.{by-test}
 use Rattle.book.specs.declared.Cmd.{Cmd}
-use Rattle.book.specs.declared.Cursor.{Cursor}
 use Rattle.book.specs.declared.Step.the-variants.{Command}
 use Rattle.strings.specs.Strings.{stringRule}
+use Rattle.strings.proofs.Tame.{and-left, and-right}
 use Rattle.book.specs.Command.{begin, key, target, flag, textOption, end, widths, widthOf, operands}
 use Rattle.book.specs.Rules.{slot, inRange, openers, limits, inOrder, tooMany, textOf, ownRule, goodString, givenBefore, faultOf}
 use Rattle.book.specs.Steps.{stepAt}
-use Rattle.book.specs.State.{has, pushed, Slotted}
+use Rattle.book.specs.State.{has, pushed}
 use Rattle.book.proofs.Table.{every, at-each, T-true}
 use Rattle.book.proofs.Steps.{step-command}
 use Rattle.book.proofs.Keeps.{order-on, many-once, many-on}
 use Rattle.usual.specs.Usual.{fitting, mostOf, Usual, Passed, still, more}
-
-and-left : (a b : Bool) → (a && b) ≡ true → a ≡ true
-and-left true b e = refl
-and-left false b e = e
-
-and-right : (a b : Bool) → (a && b) ≡ true → b ≡ true
-and-right true b e = e
-and-right false b e = absurd (true≢false (sym e))
 
 not-left : (a : Bool) → not a ≡ true → a ≡ false
 not-left true e = absurd (true≢false (sym e))

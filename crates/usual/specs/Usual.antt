@@ -1,5 +1,5 @@
 -- Commands that are taken in passing. These serve the code: what is wrong with a command is said in the book's definitions alone.
-use Prim.Native.Nat.{ℕ, _-_, _≤_}
+use Prim.Native.Nat.{ℕ, _-_}
 use mathlib.Core.List.{List}
 use mathlib.Core.Path.{_≡_}
 use mathlib.Core.Bool.{Bool, not, _&&_, cond}
@@ -9,10 +9,9 @@ use lib.Dec.{eqb, leb}
 use Rattle.text.specs.Bytes.{Text}
 use Rattle.book.specs.declared.Cmd.{Cmd}
 use Rattle.book.specs.declared.Cursor.{Cursor}
-use Rattle.book.specs.declared.Step.{Step}
 use Rattle.book.specs.declared.Step.the-variants.{Command}
 use Rattle.book.specs.Command.{key, end, operands}
-use Rattle.book.specs.Rules.{openers, limits, goodString, faultOf}
+use Rattle.book.specs.Rules.{limits, goodString, faultOf}
 use Rattle.book.specs.Steps.{stepAt}
 use Rattle.book.specs.State.{has, pushed, Slotted}
 
