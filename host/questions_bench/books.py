@@ -1,11 +1,12 @@
 #!/usr/bin/env python3
-"""books.py FOLDER: the books of docs/SPEED.md's figures for whole questions, each as NAME.cmd and NAME.txt, and NAME.ask with its question lines.
-typical: a base config and 19 packages that extend it; each question needs two configs of the book. workspace: 20 configs with references, as a workspace
-of packages has them: a base with a key for each package, a root config of references alone, and packages that refer to the four before them; a question needs six.
-limits: typical with 63 packages, as large as the limits of a book let them be; a question needs two. wide: the same, where the config that is asked extends eight of the packages
-and refers to sixteen; a question needs 26.
-ladder: 60 configs, each of which extends the two before it by two entries. hostile: 64 patterns on which the matcher makes the most steps, and a
-file that none of them matches. records-N: the typical book with N records."""
+"""books.py FOLDER: the books of docs/SPEED.md's figures, each as NAME.cmd and NAME.txt, and NAME.ask with its question lines.
+typical: a base config and 19 packages that extend it; each question needs two configs of the book. limits: the same with 63 packages, as large as the limits of a book let them be.
+layered: a preset, a base that extends it and 18 packages with four references each; a question needs seven. laden: the same with 62 packages as large as those of limits. The crate takes
+about as long for a question on these two as it took when the goals of speed were set.
+workspace: 20 configs with references, as a workspace of packages has them: a base with a key for each package, a root config of references alone, and packages that refer to the four
+before them; a question needs six. wide: limits, where the config that is asked extends eight of the packages and refers to sixteen; a question needs 26.
+ladder: 60 configs, each of which extends the two before it by two entries. rungs: the same with patterns and four keys in each. hostile: 64 patterns on which the matcher makes the most
+steps, and a file that none of them matches. records-N: the typical book with N records."""
 import sys
 
 
