@@ -11,7 +11,7 @@ use borrow.Author.Tests.{eq-eqb, ne-eqb, eqb-true, eqb-false}
 use Rattle.text.specs.Bytes.{Text, slash}
 use Rattle.text.specs.Text.{prefixOf, sameText, someOf}
 use Rattle.compare.specs.Compare.{covers}
-use Rattle.compare.specs.Compare.{digestFrom}
+use Rattle.compare.specs.Compare.{digestOf}
 use Rattle.text.proofs.Scans.{prefix-short, same-length}
 use Rattle.text.proofs.Picks.{by-test}
 use Rattle.book.specs.Command.{key}
@@ -109,22 +109,22 @@ same-whole (x ∷ a) (y ∷ b) e = ap₂ _∷_ (eqb-true x y (left (eqb x y) (sa
     right true b e = e
     right false b e = absurd (true≢false (sym e))
 
-meet-never : (paths : Bool) (a b : Text) → cond (eqb (length a) (length b)) (eqb (digestFrom 0 a) (digestFrom 0 b)) paths ≡ false → meets paths a b ≡ false
+meet-never : (paths : Bool) (a b : Text) → cond (eqb (length a) (length b)) (eqb (digestOf a) (digestOf b)) paths ≡ false → meets paths a b ≡ false
 meet-never paths a b e =
     by-test (eqb (length a) (length b))
     (λ y.
     let l : length a ≡ length b = eqb-true (length a) (length b) y in
-    let d : eqb (digestFrom 0 a) (digestFrom 0 b) ≡ false = rw y at e in
+    let d : eqb (digestOf a) (digestOf b) ≡ false = rw y at e in
     sym (meet-same paths a b (covers b a) l refl) ∙ covers-same a b l
     ∙ by-test (sameText a b)
-    (λ t. absurd (eqb-false (digestFrom 0 a) (digestFrom 0 b) d (ap (digestFrom 0) (same-whole a b t))))
+    (λ t. absurd (eqb-false (digestOf a) (digestOf b) d (ap digestOf (same-whole a b t))))
     (λ f. f))
     (λ y. let p : paths ≡ false = rw y at e in sym (meet-not paths a b p (eqb-false (length a) (length b) y)))
 
 -- a row that is passed over by its length and mark
 pub row-skip :
     (paths : Bool) (s text starts lens marks : List ℕ) (n i : ℕ) → Table text starts lens n → Marked text starts lens marks n → 0 < i → i ≤ n →
-    (mark : ℕ) → mark ≡ digestFrom 0 s → (r : Bool) → r ≡ cond (eqb (length s) (getD lens (i - 1) 0)) (eqb mark (getD marks (i - 1) 0)) paths → r ≡ false →
+    (mark : ℕ) → mark ≡ digestOf s → (r : Bool) → r ≡ cond (eqb (length s) (getD lens (i - 1) 0)) (eqb mark (getD marks (i - 1) 0)) paths → r ≡ false →
     someOf (meets paths s) (texts text starts lens i) ≡ someOf (meets paths s) (texts text starts lens (i - 1))
 row-skip paths s text starts lens marks n i t k h l mark m r d e =
     let size : length (take (getD lens (i - 1) 0) (drop (getD starts (i - 1) 0) text)) ≡ getD lens (i - 1) 0 =

@@ -7,7 +7,7 @@ use lib.ListN.{length, getD, set, take, drop}
 use lib.Dec.{eqb}
 use mathlib.Core.Option.{Option, some, none}
 use Rattle.text.specs.Text.{sameText}
-use Rattle.compare.specs.Compare.{digestFrom}
+use Rattle.compare.specs.Compare.{digestOf}
 use Rattle.book.specs.declared.Cmd.{Cmd}
 use Rattle.book.specs.Rules.{slot, inRange, tally, lastOp, clash}
 
@@ -45,7 +45,7 @@ pub record Table (text starts lens : List ℕ) (n : ℕ) : Type 0 where
 -- the marks of the first n rows are there, each the digest of the row's string
 pub record Marked (text starts lens marks : List ℕ) (n : ℕ) : Type 0 where
   pub there : n ≤ length marks
-  pub each : (i : ℕ) → i < n → getD marks i 0 ≡ digestFrom 0 (take (getD lens i 0) (drop (getD starts i 0) text))
+  pub each : (i : ℕ) → i < n → getD marks i 0 ≡ digestOf (take (getD lens i 0) (drop (getD starts i 0) text))
 
 -- two strings meet: as paths, or as keys
 unfoldable pub meets : Bool → List ℕ → List ℕ → Bool

@@ -16,7 +16,7 @@ ghost use lib.Dec.{eqb, leb};
 ghost use Rattle.text.specs.Text.{someOf};
 ghost use Rattle.strings.specs.Strings.{stringRule};
 ghost use Rattle.strings.specs.Scan.{tameText};
-ghost use Rattle.compare.specs.Compare.{digestFrom};
+ghost use Rattle.compare.specs.Compare.{digestOf};
 ghost use Rattle.book.specs.Command.{begin, key, target, widthOf, word, operands};
 ghost use Rattle.book.specs.Rules.{slot, openers, limits, inOrder, tooMany, textOf, ownRule, goodString, faultOf};
 ghost use Rattle.book.specs.Steps.{stepAt};
@@ -501,7 +501,7 @@ fn is_met(
 ) -> bool
     requires { ⌜ Table (now text) (now starts) (now lens) n ⌝ }
     requires { ⌜ Marked (now text) (now starts) (now lens) (now marks) n ⌝ }
-    requires { ⌜ mark ≡ digestFrom 0 (now s) ⌝ }
+    requires { ⌜ mark ≡ digestOf (now s) ⌝ }
     ensures { λ r. ⌜ r ≡ someOf (meets paths (now (s .entry))) (texts (now (text .entry)) (now (starts .entry)) (now (lens .entry)) n) ⌝ }
 {
     let size = s.len();
@@ -575,7 +575,7 @@ pub fn put_key(
     ensures { λ r. ⌜ r ≡ cond (eqb (c .op) key) (cond (someOf (meets false (textOf (now (text .entry)) c)) (texts (now (text .entry)) (now (ks .entry)) (now (kl .entry)) m)) 33 (m + 1)) m ⌝ }
     ensures { λ r. ⌜ now (ks .exit) ≡ cond (eqb (c .op) key) (set (now (ks .entry)) m (c .start)) (now (ks .entry)) ⌝ }
     ensures { λ r. ⌜ now (kl .exit) ≡ cond (eqb (c .op) key) (set (now (kl .entry)) m (c .len)) (now (kl .entry)) ⌝ }
-    ensures { λ r. ⌜ now (km .exit) ≡ cond (eqb (c .op) key) (set (now (km .entry)) m (digestFrom 0 (textOf (now (text .entry)) c))) (now (km .entry)) ⌝ }
+    ensures { λ r. ⌜ now (km .exit) ≡ cond (eqb (c .op) key) (set (now (km .entry)) m (digestOf (textOf (now (text .entry)) c))) (now (km .entry)) ⌝ }
 {
     let op = c.op;
     if op != KEY {

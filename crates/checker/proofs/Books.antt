@@ -19,7 +19,7 @@ use Rattle.book.specs.Rules.{pathOf}
 use Rattle.book.specs.Book.{judge, finish, verdict}
 use Rattle.book.specs.Index.{upToEnd, recordAt, beginsOf, Row, AcceptedAs}
 use Rattle.book.specs.State.{texts, Table, Marked}
-use Rattle.compare.specs.Compare.{digestFrom}
+use Rattle.compare.specs.Compare.{digestOf}
 use Rattle.book.specs.Checks.{Held, ClosedAs, CheckedAs}
 use Rattle.verdicts.proofs.Turns.{texts-put, table-put, marked-put}
 
@@ -124,7 +124,7 @@ module _ (commands text : Text) where
             rw (listed, List·getD-append (reverse (map reverse (s .records))) (reverse (closed-as .closed) ∷ []) [] i (omega (arith, less, before)), getD-set-other begins n i at 0 other, getD-set-other starts n i start 0 other, getD-set-other lens n i len 0 other)
             (s .rows i less))
 
-        pub booked-on : (mark : ℕ) → mark ≡ digestFrom 0 (take len (drop start text)) → Booked (set begins n at) (set starts n start) (set lens n len) (set marks n mark) (n + 1) to
+        pub booked-on : (mark : ℕ) → mark ≡ digestOf (take len (drop start text)) → Booked (set begins n at) (set starts n start) (set lens n len) (set marks n mark) (n + 1) to
         booked-on mark y =
             let d = closed-as in
             record {

@@ -2,20 +2,20 @@
 use mathlib.Core.Path.{_≡_, refl, sym, _∙_}
 use mathlib.Core.List.{[], _∷_, _++_}
 use mathlib.Core.Bool.{Bool, true, false, _&&_, and-true, and-false, and-assoc}
-use Prim.Native.Nat.{ℕ, suc, _+_, _≤_, _<_}
+use Prim.Native.Nat.{ℕ, suc, _+_, _-_, _*_, _%_, _≤_, _<_}
 use native.Mathlib.Numerals.{add-one}
 use native.Mathlib.Omega.{arith}
 use lib.Bits.{bitOr, bitXor, xor-add-and, and-le-l, and-le-r, xor-self}
 use lib.ListN.{length, getD, drop, length-append, drop-of-length-le}
 use lib.Seq.{drop-cons}
 use lib.Dec.{eqb}
-use borrow.Author.Tests.{eq-eqb, ne-eqb, eqb-true, eqb-false}
+use borrow.Author.Tests.{eq-eqb, ne-eqb, eqb-true, eqb-false, le-leb, lt-leb}
 use Rattle.text.specs.Bytes.{Text, slash}
 use Rattle.text.specs.Text.{prefixOf}
 use Rattle.text.proofs.Picks.{by-test}
 use Rattle.text.proofs.Scans.{prefix-short}
 use Rattle.strings.proofs.Gather.{Gathered, gather-step, gather-end}
-use Rattle.compare.specs.Compare.{covers, digestFrom}
+use Rattle.compare.specs.Compare.{covers, mixFrom, lowHalf, digestOf}
 
 -- A prefix
 
@@ -78,10 +78,23 @@ module _ (p q : Text) where
 
 -- The digest
 
-pub digest-step : (s : Text) (i mix v : ℕ) → i < length s → digestFrom mix (drop i s) ≡ v → digestFrom (bitXor mix (getD s i 0)) (drop (i + 1) s) ≡ v
-unfolding digestFrom
-digest-step s i mix v h e = rw add-one (sym (rw (drop-cons s i 0 h) refl) ∙ e)
+pub mix-step : (s : Text) (i mix v : ℕ) → i < length s → mixFrom mix (drop i s) ≡ v → mixFrom (bitXor mix (getD s i 0)) (drop (i + 1) s) ≡ v
+unfolding mixFrom
+mix-step s i mix v h e = rw add-one (sym (rw (drop-cons s i 0 h) refl) ∙ e)
 
-pub digest-end : (s : Text) (i mix v : ℕ) → length s ≤ i → digestFrom mix (drop i s) ≡ v → mix ≡ v
-unfolding digestFrom
-digest-end s i mix v h e = sym (rw (drop-of-length-le s h) refl) ∙ e
+pub mix-end : (s : Text) (i mix v : ℕ) → length s ≤ i → mixFrom mix (drop i s) ≡ v → mix ≡ v
+unfolding mixFrom
+mix-end s i mix v h e = sym (rw (drop-of-length-le s h) refl) ∙ e
+
+module _ (k : ℕ) (s : Text) where
+  pub half-none : length s < k → 0 ≡ lowHalf k s
+  unfolding lowHalf
+  half-none h = rw (lt-leb k (length s) h) refl
+
+  pub half-there : k ≤ length s → getD s (length s - k) 0 % 16 * 16 ≡ lowHalf k s
+  unfolding lowHalf
+  half-there h = rw (le-leb k (length s) h) refl
+
+pub digest-whole : (s : Text) (all key path : ℕ) → all ≡ mixFrom 0 s → key ≡ lowHalf 3 s → path ≡ lowHalf 15 s → bitXor (bitXor all key) path ≡ digestOf s
+unfolding digestOf
+digest-whole s all key path a k p = rw (a, k, p) refl

@@ -24,7 +24,7 @@ use Rattle.book.specs.Book.{judge, next, finish}
 use Rattle.book.specs.Index.{upToEnd, beginsOf}
 use Rattle.text.specs.Text.{someOf}
 use Rattle.book.specs.State.{has, pushed, Agrees, Slotted, texts, Table, Marked, meets, number}
-use Rattle.compare.specs.Compare.{digestFrom}
+use Rattle.compare.specs.Compare.{digestOf}
 use Rattle.book.specs.Checks.{Held, ClosedAs}
 use Rattle.book.specs.Steps.{stepAt}
 use Rattle.book.proofs.Steps.{decoded, decode-step, Moved, step-moves, step-ends, step-begins}
@@ -166,13 +166,13 @@ module _ (size : ℕ) (sixty : size ≤ 64) (text : Text) (ks kl : List ℕ) (m 
       less : (i : ℕ) → i < m + 1 → (i ≡ m → ⊥) → i < m
       less i h n = by-test (leb m i) (λ e. absurd (n (omega (arith, h, leb-true m i e)))) (λ e. leb-false m i e)
 
-  pub marked-put : (km : List ℕ) → Marked text ks kl km m → length km ≡ size → (d : ℕ) → d ≡ digestFrom 0 (take b (drop a text)) → Marked text (set ks m a) (set kl m b) (set km m d) (m + 1)
+  pub marked-put : (km : List ℕ) → Marked text ks kl km m → length km ≡ size → (d : ℕ) → d ≡ digestOf (take b (drop a text)) → Marked text (set ks m a) (set kl m b) (set km m d) (m + 1)
   marked-put km k r d e =
       record {
         there = omega (arith, l, r, length-set km m d);
         each = λ i h.
             by-test (eqb i m)
-            (λ y. subst (λ (j : ℕ). getD (set km m d) j 0 ≡ digestFrom 0 (take (getD (set kl m b) j 0) (drop (getD (set ks m a) j 0) text))) (sym (eqb-true i m y))
+            (λ y. subst (λ (j : ℕ). getD (set km m d) j 0 ≡ digestOf (take (getD (set kl m b) j 0) (drop (getD (set ks m a) j 0) text))) (sym (eqb-true i m y))
             (rw (getD-set-same ks m a 0 (omega (arith, l, rk)), getD-set-same kl m b 0 (omega (arith, l, rl)), getD-set-same km m d 0 (omega (arith, l, r))) e))
             (λ y. rw (getD-set-other ks m i a 0 (eqb-false i m y), getD-set-other kl m i b 0 (eqb-false i m y), getD-set-other km m i d 0 (eqb-false i m y)) (k .each i (below i h (eqb-false i m y))));
       }
@@ -356,7 +356,7 @@ module _ (part : Text) (base : ℕ) (text : Text) (ps pl : List ℕ) (n : ℕ) w
                 rows : (length ks′ ≡ 32) × ((length kl′ ≡ 32) × (length km′ ≡ 32))
                 more : m′ ≡ cond (eqb (c .op) key) (suc (has ns key)) (has ns key)
 
-              module _ (am : m′ ≡ cond (eqb (c .op) key) (m + 1) m) (ak : ks′ ≡ cond (eqb (c .op) key) (set ks m (c .start)) ks) (al : kl′ ≡ cond (eqb (c .op) key) (set kl m (c .len)) kl) (ad : km′ ≡ cond (eqb (c .op) key) (set km m (digestFrom 0 (textOf text c))) km) where
+              module _ (am : m′ ≡ cond (eqb (c .op) key) (m + 1) m) (ak : ks′ ≡ cond (eqb (c .op) key) (set ks m (c .start)) ks) (al : kl′ ≡ cond (eqb (c .op) key) (set kl m (c .len)) kl) (ad : km′ ≡ cond (eqb (c .op) key) (set km m (digestOf (textOf text c))) km) where
                 keyed : Keyed
                 unfolding keysOf textOf
                 keyed =
@@ -367,8 +367,8 @@ module _ (part : Text) (base : ℕ) (text : Text) (ps pl : List ℕ) (n : ℕ) w
                     record {
                       keys = rw y (ap (λ (l : List Text). take (c .len) (drop (c .start) text) ∷ l) (s .keys) ∙ sym (texts-put 32 (omega arith) text ks kl m (c .start) (c .len) (s .table) within-text r (s .rows .0) (s .rows .1 .0)));
                       table = table-put 32 (omega arith) text ks kl m (c .start) (c .len) (s .table) within-text r (s .rows .0) (s .rows .1 .0);
-                      marks = marked-put 32 (omega arith) text ks kl m (c .start) (c .len) (s .table) within-text r (s .rows .0) (s .rows .1 .0) km (s .marks) (s .rows .1 .1) (digestFrom 0 (textOf text c)) refl;
-                      rows = (length-set ks m (c .start) ∙ s .rows .0, (length-set kl m (c .len) ∙ s .rows .1 .0, length-set km m (digestFrom 0 (textOf text c)) ∙ s .rows .1 .1));
+                      marks = marked-put 32 (omega arith) text ks kl m (c .start) (c .len) (s .table) within-text r (s .rows .0) (s .rows .1 .0) km (s .marks) (s .rows .1 .1) (digestOf (textOf text c)) refl;
+                      rows = (length-set ks m (c .start) ∙ s .rows .0, (length-set kl m (c .len) ∙ s .rows .1 .0, length-set km m (digestOf (textOf text c)) ∙ s .rows .1 .1));
                       more = rw y (add-one m ∙ ap suc (s .count));
                     })
                     (λ y. rw (am, ak, al, ad, y) record { keys = rw y (s .keys); table = s .table; marks = s .marks; rows = s .rows; more = rw y (s .count) })

@@ -2,7 +2,7 @@ use mathlib.Core.Path.{refl, sym, ap, _∙_}
 use Prim.Native.Nat.{_-_}
 use mathlib.Core.Path.{_≡_}
 use lib.ListN.{length, length-drop}
-use Rattle.compare.specs.Compare.{digestFrom}
+use Rattle.compare.specs.Compare.{digestOf}
 use Rattle.checker.proofs.Books.{Booked, booked-none, booked-end, booked-refused, booked-few, booked-less, booked-on, size-commands, size-text}
 use native.Mathlib.Omega.{arith}
 use borrow.Author.Needs.{needs}
@@ -106,7 +106,7 @@ loop-less : tie.Need-loop-less Inv-loop μ-loop
 loop-less c = booked-less _ _ (c .before .before .before .before .before .before .before .before .before .before .before .before .before .before .before .before .before .loop .inv .0) _ (c .before .before .before .before .before .before .before .before .before .before .before .before .before .before .before .from .ensures) _ (c .before .before .before .before .before .before .before .before .check-record .ensures) _ _ _ (c .before .before .before .to .given .1)
 
 loop-again : tie.Need-loop-again Inv-loop μ-loop
-loop-again c = (booked-on _ _ (c .before .before .before .before .before .before .before .before .before .before .before .before .before .before .before .before .before .loop .inv .0) _ (c .before .before .before .before .before .before .before .before .before .before .before .before .before .before .before .from .ensures) _ (c .before .before .before .before .before .before .before .before .check-record .ensures) _ _ _ (c .before .before .before .to .given .1) _ (c .digest .ensures ∙ ap (digestFrom 0) (c .before .piece .ensures)), (c .before .before .before .before .before .before .before .before .check-record .kept .1 .1 .1 .1 .1 .1 .1 .1 .0 ∙ c .before .before .before .before .before .before .before .before .before .before .before .before .before .before .before .before .before .loop .inv .1 .0, (c .before .before .before .before .before .before .before .before .check-record .kept .1 .1 .1 .1 .1 .1 .1 .1 .1 .0 ∙ c .before .before .before .before .before .before .before .before .before .before .before .before .before .before .before .before .before .loop .inv .1 .1 .0, c .before .before .before .before .before .before .before .before .check-record .kept .1 .1 .1 .1 .1 .1 .1 .1 .1 .1 .0 ∙ c .before .before .before .before .before .before .before .before .before .before .before .before .before .before .before .before .before .loop .inv .1 .1 .1)))
+loop-again c = (booked-on _ _ (c .before .before .before .before .before .before .before .before .before .before .before .before .before .before .before .before .before .loop .inv .0) _ (c .before .before .before .before .before .before .before .before .before .before .before .before .before .before .before .from .ensures) _ (c .before .before .before .before .before .before .before .before .check-record .ensures) _ _ _ (c .before .before .before .to .given .1) _ (c .digest .ensures ∙ ap digestOf (c .before .piece .ensures)), (c .before .before .before .before .before .before .before .before .check-record .kept .1 .1 .1 .1 .1 .1 .1 .1 .0 ∙ c .before .before .before .before .before .before .before .before .before .before .before .before .before .before .before .before .before .loop .inv .1 .0, (c .before .before .before .before .before .before .before .before .check-record .kept .1 .1 .1 .1 .1 .1 .1 .1 .1 .0 ∙ c .before .before .before .before .before .before .before .before .before .before .before .before .before .before .before .before .before .loop .inv .1 .1 .0, c .before .before .before .before .before .before .before .before .check-record .kept .1 .1 .1 .1 .1 .1 .1 .1 .1 .1 .0 ∙ c .before .before .before .before .before .before .before .before .before .before .before .before .before .before .before .before .before .loop .inv .1 .1 .1)))
 
 same-length-5 : tie.Need-same-length-5 Inv-loop μ-loop
 same-length-5 c = search needs

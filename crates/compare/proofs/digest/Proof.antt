@@ -1,37 +1,19 @@
-use mathlib.Core.Path.{_≡_, refl}
-use Prim.Native.Nat.{_-_}
-use lib.ListN.{length, drop}
-use Rattle.compare.specs.Compare.{digestFrom}
-use Rattle.compare.proofs.Ways.{digest-step, digest-end}
+use Rattle.compare.proofs.Ways.{digest-whole}
 use borrow.Author.Needs.{needs}
 use Rattle.compare.proofs.digest.Statement.{statement}
 use Rattle.compare.proofs.digest.Tie as tie
 
-abbrev Inv-loop : tie.InvT-loop
-Inv-loop s mix₀ i₀ mix i = digestFrom mix (drop i s) ≡ digestFrom 0 s
+mix-requires : tie.Need-mix-requires
+mix-requires c κs = search needs
 
-abbrev μ-loop : tie.MeasureT-loop
-μ-loop s mix₀ i₀ mix i = length s - i
+low-half-requires : tie.Need-low-half-requires
+low-half-requires c κs = search needs
 
-loop-holds : tie.Need-loop-holds Inv-loop μ-loop
-loop-holds c = refl
+low-half-requires-2 : tie.Need-low-half-requires-2
+low-half-requires-2 c κs = search needs
 
-shared-slice-read-mix : tie.Need-shared-slice-read-mix Inv-loop μ-loop
-shared-slice-read-mix c = search needs
-
-add-i : tie.Need-add-i Inv-loop μ-loop
-add-i c = search needs
-
-loop-less : tie.Need-loop-less Inv-loop μ-loop
-loop-less c = search needs
-
-loop-again : tie.Need-loop-again Inv-loop μ-loop
-loop-again c = digest-step _ _ _ _ (c .before .loop-test .taken) (c .before .before .loop .inv)
-
-returns : tie.Need-returns Inv-loop μ-loop
-returns c = digest-end _ _ _ _ (c .loop-test .left) (c .before .loop .inv)
+returns : tie.Need-returns
+returns c = digest-whole _ _ _ _ (c .before .before .mix .ensures) (c .before .low-half .ensures) (c .low-half2 .ensures)
 
 pub digest-spec : {M : Type 1} → statement M
-digest-spec =
-    tie.close
-    (tie.spec Inv-loop μ-loop loop-holds shared-slice-read-mix add-i loop-less loop-again returns)
+digest-spec = tie.close (tie.spec mix-requires low-half-requires low-half-requires-2 returns)
