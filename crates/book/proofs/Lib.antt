@@ -4,4 +4,5 @@ pub mod Arms
 pub mod Steps
 pub mod Keeps
 pub mod Rows
+pub mod Marks
 pub mod Faults

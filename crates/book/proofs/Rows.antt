@@ -94,7 +94,7 @@ module _ (op m : ℕ) (s t : Text) (keys : List Text) (r : Bool) (o : op ≡ key
 
 -- Two strings that cannot meet
 
-same-whole : (a b : Text) → sameText a b ≡ true → a ≡ b
+pub same-whole : (a b : Text) → sameText a b ≡ true → a ≡ b
 unfolding sameText
 same-whole [] [] e = refl
 same-whole [] (y ∷ b) e = absurd (true≢false (sym e))

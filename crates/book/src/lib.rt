@@ -5,6 +5,7 @@ use path_rules::is_record_path_of;
 use path_rules::obeys_lead;
 use patterns::is_pattern_of;
 use strings::is_string_of;
+use strings::same;
 use text::from;
 use text::upto;
 ghost use mathlib.Core.Path.{_≡_};
@@ -561,6 +562,42 @@ pub fn fault_of(
     0
 }
 
+// Whether one of the 32 marks is the given one. The loop always looks at all of them, and so at many at a time.
+fn is_marked(marks: &[u8], mark: u8) -> bool
+    requires { ⌜ length (now marks) ≡ 32 ⌝ }
+    ensures { λ r. ⌜ r ≡ someOf (eqb mark) (now (marks .entry)) ⌝ }
+{
+    let mut met: u8 = 0;
+    let mut i = 0;
+    while i < 32 {
+        met = met | same(mark, marks[i]);
+        i += 1;
+    }
+    met != 0
+}
+
+// Whether s, whose digest is given, is the key of one of the first m rows, whose digests are the marks: the rows are looked at only where
+// that digest is one of the marks, be it one of a row that is not in use.
+fn is_known(
+    text: &[u8],
+    starts: &[usize],
+    lens: &[usize],
+    marks: &[u8],
+    m: usize,
+    s: &[u8],
+    mark: u8,
+) -> bool
+    requires { ⌜ Table (now text) (now starts) (now lens) m ⌝ }
+    requires { ⌜ Marked (now text) (now starts) (now lens) (now marks) m × (length (now marks) ≡ 32) ⌝ }
+    requires { ⌜ mark ≡ digestOf (now s) ⌝ }
+    ensures { λ r. ⌜ r ≡ someOf (meets false (now (s .entry))) (texts (now (text .entry)) (now (starts .entry)) (now (lens .entry)) m) ⌝ }
+{
+    if !is_marked(marks, mark) {
+        return false;
+    }
+    is_met(false, text, starts, lens, marks, m, s, mark)
+}
+
 // A key's row put into the table, whose digests are km; how many rows there are then, or MET where the key was given before.
 pub fn put_key(
     text: &[u8],
@@ -583,7 +620,7 @@ pub fn put_key(
     }
     let s = string_of(text, c);
     let mark = digest(s);
-    let met = is_met(false, text, ks, kl, km, m, s, mark);
+    let met = is_known(text, ks, kl, km, m, s, mark);
     ks[m] = c.start;
     kl[m] = c.len;
     km[m] = mark;

@@ -14,8 +14,8 @@ string-of-requires c κs = search needs
 digest-requires : tie.Need-digest-requires
 digest-requires c κs = search needs
 
-is-met-requires : tie.Need-is-met-requires
-is-met-requires c κs = (c .before .before .before .before .before .before .before .before .before .before .pre .1 .0, (c .before .before .before .before .before .before .before .before .before .before .pre .1 .1, c .before .before .before .digest .ensures))
+is-known-requires : tie.Need-is-known-requires
+is-known-requires c κs = (c .before .before .before .before .before .before .before .before .before .before .pre .1 .0, ((c .before .before .before .before .before .before .before .before .before .before .pre .1 .1, c .before .before .before .before .before .before .before .before .before .before .pre .0 .1 .1 .1), c .before .before .before .digest .ensures))
 
 mul-ks : tie.Need-mul-ks
 mul-ks c = omega (arith, c .before .before .before .before .before .before .before .before .before .before .before .pre .0 .0 (c .before .before .before .before .before .before .if1 .left))
@@ -42,7 +42,7 @@ same-length-3 : tie.Need-same-length-3
 same-length-3 c = search needs
 
 returns-2 : tie.Need-returns-2
-returns-2 c = (rows-met _ _ _ _ _ _ (c .before .before .before .before .before .before .before .if1 .left) (c .before .before .before .before .before .before .string-of .ensures) (c .before .is-met .ensures) (c .if2 .taken), (simp (eq-eqb _ _ (c .before .before .before .before .before .before .before .if1 .left)), (simp (eq-eqb _ _ (c .before .before .before .before .before .before .before .if1 .left)), simp (eq-eqb _ _ (c .before .before .before .before .before .before .before .if1 .left), c .before .before .before .before .before .digest .ensures, c .before .before .before .before .before .before .string-of .ensures))))
+returns-2 c = (rows-met _ _ _ _ _ _ (c .before .before .before .before .before .before .before .if1 .left) (c .before .before .before .before .before .before .string-of .ensures) (c .before .is-known .ensures) (c .if2 .taken), (simp (eq-eqb _ _ (c .before .before .before .before .before .before .before .if1 .left)), (simp (eq-eqb _ _ (c .before .before .before .before .before .before .before .if1 .left)), simp (eq-eqb _ _ (c .before .before .before .before .before .before .before .if1 .left), c .before .before .before .before .before .digest .ensures, c .before .before .before .before .before .before .string-of .ensures))))
 
 add-result : tie.Need-add-result
 add-result c = omega (arith, c .before .before .before .before .before .before .before .before .before .before .before .before .pre .0 .0 (c .before .before .before .before .before .before .before .if1 .left))
@@ -57,7 +57,7 @@ same-length-6 : tie.Need-same-length-6
 same-length-6 c = search needs
 
 returns-3 : tie.Need-returns-3
-returns-3 c = (rows-new _ _ _ _ _ _ (c .before .before .before .before .before .before .before .if1 .left) (c .before .before .before .before .before .before .string-of .ensures) (c .before .is-met .ensures) (c .if2 .left), (simp (eq-eqb _ _ (c .before .before .before .before .before .before .before .if1 .left)), (simp (eq-eqb _ _ (c .before .before .before .before .before .before .before .if1 .left)), simp (eq-eqb _ _ (c .before .before .before .before .before .before .before .if1 .left), c .before .before .before .before .before .digest .ensures, c .before .before .before .before .before .before .string-of .ensures))))
+returns-3 c = (rows-new _ _ _ _ _ _ (c .before .before .before .before .before .before .before .if1 .left) (c .before .before .before .before .before .before .string-of .ensures) (c .before .is-known .ensures) (c .if2 .left), (simp (eq-eqb _ _ (c .before .before .before .before .before .before .before .if1 .left)), (simp (eq-eqb _ _ (c .before .before .before .before .before .before .before .if1 .left)), simp (eq-eqb _ _ (c .before .before .before .before .before .before .before .if1 .left), c .before .before .before .before .before .digest .ensures, c .before .before .before .before .before .before .string-of .ensures))))
 
 pub put-key-spec : {M : Type 1} → statement M
 put-key-spec =
@@ -66,7 +66,7 @@ put-key-spec =
     returns
     string-of-requires
     digest-requires
-    is-met-requires
+    is-known-requires
     mul-ks
     slice-write-ks
     mul-kl
