@@ -1,18 +1,19 @@
 -- A tame text, and the rules of the strings of one. Assumes nothing.
-use mathlib.Core.Path.{_≡_, refl, sym, ap, _∙_}
+use mathlib.Core.Path.{_≡_, refl, sym, ap, ap₂, _∙_}
 use mathlib.Core.List.{[], _∷_}
-use mathlib.Core.Bool.{Bool, true, false, not, _&&_, and-true, true≢false}
+use mathlib.Core.Bool.{Bool, true, false, not, cond, _&&_, and-true, and-false, true≢false}
 use Prim.Native.Nat.{ℕ, zero, suc, _≤_, _<_}
 use native.Mathlib.Omega.{arith}
 use lib.ListN.{length, take, drop}
 use lib.Dec.{eqb, leb}
-use lib.Bits.{bitOr}
-use borrow.Author.Tests.{le-leb, lt-leb, leb-true, ne-eqb}
+use lib.Bits.{bitOr, bitXor}
+use borrow.Author.Tests.{le-leb, lt-leb, leb-true, ne-eqb, eqb-true, eqb-false}
 use Rattle.text.specs.Bytes.{Text, bytes}
 use Rattle.text.specs.Text.{someOf, eachOf}
+use Rattle.text.proofs.Picks.{by-test}
 use Rattle.strings.specs.Strings.{noneOf, plainByte, stringRule}
-use Rattle.strings.specs.Scan.{within, tameByte, tameText}
-use Rattle.strings.proofs.Gather.{or-none}
+use Rattle.strings.specs.Scan.{flag, within, tameByte, tameText}
+use Rattle.strings.proofs.Gather.{or-none, flag-none, not-flag}
 
 pub and-left : (a b : Bool) → (a && b) ≡ true → a ≡ true
 and-left true b e = refl
@@ -72,24 +73,64 @@ tame-part s a b e = each-take tameByte b (drop a s) (each-drop tameByte a s e)
 -- the ways out of the code's tests of a byte
 
 module _ (x low high : ℕ) where
-  pub below-range : x < low → true ≡ not (within low high x)
+  pub below-range : x < low → 0 ≡ flag (within low high x)
   below-range h = rw (lt-leb low x h) refl
 
-  pub above-range : low ≤ x → high < x → true ≡ not (within low high x)
+  pub above-range : low ≤ x → high < x → 0 ≡ flag (within low high x)
   above-range l h = rw (le-leb low x l, lt-leb x high h) refl
 
-  pub in-range : low ≤ x → x ≤ high → false ≡ not (within low high x)
+  pub in-range : low ≤ x → x ≤ high → 1 ≡ flag (within low high x)
   in-range l h = rw (le-leb low x l, le-leb x high h) refl
 
-module _ (x : ℕ) where
-  pub wild-low : x < 0x22 → false ≡ tameByte x
-  wild-low h = rw (lt-leb 0x22 x h) refl
+-- a rule of each number below n
+eachBelow : (ℕ → Bool) → ℕ → Bool
+eachBelow P zero = true
+eachBelow P (suc n) = P n && eachBelow P n
 
-  pub wild-high : 0x22 ≤ x → 0x7E < x → false ≡ tameByte x
-  wild-high l h = rw (le-leb 0x22 x l, lt-leb x 0x7E h) refl
+below-each : (P : ℕ → Bool) (n : ℕ) → eachBelow P n ≡ true → (x : ℕ) → x < n → P x ≡ true
+unfolding eachBelow
+below-each P zero e x h = let w : ⊥ = omega arith in absurd w
+below-each P (suc n) e x h =
+    by-test (eqb x n)
+    (λ t. let q : x ≡ n = eqb-true x n t in rw q (and-left (P n) (eachBelow P n) e))
+    (λ f. below-each P n (and-right (P n) (eachBelow P n) e) x (omega (arith, eqb-false x n f)))
 
-  pub wild-on : 0x22 ≤ x → x ≤ 0x7E → (f : ℕ) → eqb f 0 ≡ not (within 0x5B 0x5D x) → (g : ℕ) → eqb g 0 ≡ not (within 0x7B 0x7D x) → eqb (bitOr f g) 0 ≡ tameByte x
-  wild-on l h f a g b = or-none f g ∙ rw (le-leb 0x22 x l, le-leb x 0x7E h, a, b) refl
+-- Two ranges are one where the bit in which a bracket and its brace differ is set: computed for each byte up to the highest.
+abbrev twoRanges : ℕ → Bool
+twoRanges x = not (within 0x5B 0x5D x) && not (within 0x7B 0x7D x)
+
+abbrev oneRange : ℕ → Bool
+oneRange x = not (within 0x7B 0x7D (bitOr x 0x20))
+
+abbrev sameRanges : ℕ → Bool
+sameRanges x = cond (oneRange x) (twoRanges x) (not (twoRanges x))
+
+ranges-computed : eachBelow sameRanges 0x7F ≡ true
+unfolding eachBelow
+ranges-computed = refl
+
+ranges-same : (x : ℕ) → x < 0x7F → oneRange x ≡ twoRanges x
+ranges-same x h = told (oneRange x) (twoRanges x) (below-each sameRanges 0x7F ranges-computed x h)
+  where
+    told : (a b : Bool) → cond a b (not b) ≡ true → a ≡ b
+    told true b e = sym e
+    told false true e = e
+    told false false e = refl
+
+pub wild-flags : (x f g : ℕ) → f ≡ flag (within 0x22 0x7E x) → g ≡ flag (within 0x7B 0x7D (bitOr x 0x20)) → eqb (bitOr (bitXor 1 f) g) 0 ≡ tameByte x
+wild-flags x f g a b =
+    or-none (bitXor 1 f) g ∙ ap₂ _&&_ inside (ap (λ n. eqb n 0) b ∙ flag-none (within 0x7B 0x7D (bitOr x 0x20))) ∙ ranges (leb x 0x7E) refl
+  where
+    inside : eqb (bitXor 1 f) 0 ≡ within 0x22 0x7E x
+    inside = rw (a, not-flag (within 0x22 0x7E x), flag-none (not (within 0x22 0x7E x))) (twice (within 0x22 0x7E x))
+      where
+        twice : (t : Bool) → not (not t) ≡ t
+        twice true = refl
+        twice false = refl
+
+    ranges : (t : Bool) → leb x 0x7E ≡ t → within 0x22 0x7E x && oneRange x ≡ tameByte x
+    ranges true t = rw (ranges-same x (omega (arith, leb-true x 0x7E t))) refl
+    ranges false t = rw (t, and-false (leb 0x22 x)) refl
 
 pub tame-told : (s : Text) (r : Bool) → r ≡ eachOf tameByte s → r ≡ tameText s
 unfolding tameText

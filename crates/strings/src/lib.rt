@@ -2,7 +2,7 @@
 // gathers its verdict by an or of bytes and never leaves early: such a loop works on many bytes at a time.
 ghost use mathlib.Core.Path.{_≡_};
 ghost use mathlib.Core.List.{[], _∷_};
-ghost use mathlib.Core.Bool.{true, not};
+ghost use mathlib.Core.Bool.{true};
 ghost use lib.Dec.{eqb};
 ghost use Rattle.text.specs.Bytes.{bytes};
 ghost use Rattle.text.specs.Text.{eachOf};
@@ -28,6 +28,9 @@ const CLOSE_BRACE: u8 = b'}';
 const OPEN_BRACKET: u8 = b'[';
 
 const CLOSE_BRACKET: u8 = b']';
+
+// What a brace has and its bracket lacks.
+const BRACE_BIT: u8 = 0x20;
 
 const BANG: u8 = b'!';
 
@@ -127,7 +130,7 @@ pub fn lacks(s: &[u8], a: u8, b: u8, c: u8) -> bool
 
 // 1 where x lies from the one byte to the other, else 0.
 fn between(x: u8, low: u8, high: u8) -> u8
-    ensures { λ r. ⌜ eqb r 0 ≡ not (within low high x) ⌝ }
+    ensures { λ r. ⌜ r ≡ flag (within low high x) ⌝ }
 {
     if x < low {
         return 0;
@@ -138,19 +141,13 @@ fn between(x: u8, low: u8, high: u8) -> u8
     1
 }
 
-// 0 for a tame byte, else 1.
+// 0 for a tame byte, else 1. A bracket and its brace differ in one bit: with it set, one range holds both.
 fn wild_byte(x: u8) -> u8
     ensures { λ r. ⌜ eqb r 0 ≡ tameByte x ⌝ }
 {
-    if x < LOWEST_TAME {
-        return 1;
-    }
-    if HIGHEST < x {
-        return 1;
-    }
-    let bracket = between(x, OPEN_BRACKET, CLOSE_BRACKET);
-    let brace = between(x, OPEN_BRACE, CLOSE_BRACE);
-    bracket | brace
+    let inside = between(x, LOWEST_TAME, HIGHEST);
+    let bracket = between(x | BRACE_BIT, OPEN_BRACE, CLOSE_BRACE);
+    (1 ^ inside) | bracket
 }
 
 // Whether s is tame.
