@@ -84,14 +84,6 @@ pub meet-not : (paths : Bool) (a b : Text) → paths ≡ false → (length a ≡
 unfolding meets
 meet-not paths a b f h = rw (f, same-length a b h)
 
--- how many keys there are after a key with the string s, which was tested against those before
-module _ (op m : ℕ) (s t : Text) (keys : List Text) (r : Bool) (o : op ≡ key) (e : s ≡ t) (d : r ≡ someOf (meets false s) keys) where
-  pub rows-met : r ≡ true → 33 ≡ cond (eqb op key) (cond (someOf (meets false t) keys) 33 (m + 1)) m
-  rows-met y = rw (eq-eqb op key o, ← e, ← d, y) refl
-
-  pub rows-new : r ≡ false → m + 1 ≡ cond (eqb op key) (cond (someOf (meets false t) keys) 33 (m + 1)) m
-  rows-new y = rw (eq-eqb op key o, ← e, ← d, y) refl
-
 -- Two strings that cannot meet
 
 pub same-whole : (a b : Text) → sameText a b ≡ true → a ≡ b

@@ -83,9 +83,6 @@ const TEXT_SLOTS: usize = 32;
 
 const SLOTS: usize = 39;
 
-// Stands for a number of keys where a key was given before: a record may have 32.
-pub const MET: usize = 33;
-
 // A command: its byte, the id and value of a flag, the id of a text option, and start and length of its string. What it has not is 0.
 pub struct Cmd {
     pub op: u8,
@@ -116,7 +113,7 @@ pub fn wide(x: u8) -> usize
 }
 
 // Whether a command's operands are a string and nothing else, as most commands' are.
-pub fn is_spanned(op: u8) -> bool
+fn is_spanned(op: u8) -> bool
     ensures { λ r. ⌜ r ≡ eqb (widthOf op) 4 ⌝ }
 {
     match op {
@@ -137,7 +134,7 @@ pub fn is_spanned(op: u8) -> bool
 }
 
 // The operand bytes of any other command; 9 for an unknown byte.
-pub fn width(op: u8) -> usize
+fn width(op: u8) -> usize
     requires { ⌜ eqb (widthOf op) 4 ≡ false ⌝ }
     ensures { λ r. ⌜ r ≡ widthOf op ⌝ }
 {
@@ -259,27 +256,17 @@ pub fn string_of(text: &[u8], c: Cmd) -> &[u8]
     piece(text, c.start, c.len)
 }
 
-// The rule of its own that the string of a command other than BEGIN has.
-pub fn item_rule(tame: bool, op: u8, s: &[u8]) -> bool
-    requires { ⌜ (op ≡ begin → ⊥) × (tame ≡ true → tameText (now s) ≡ true) ⌝ }
-    ensures { λ r. ⌜ r ≡ ownRule op (now (s .entry)) ⌝ }
-{
-    match op {
-        INCLUDE_ITEM | EXCLUDE_ITEM => is_pattern_of(tame, s),
-        EXTENDS | REFERENCE => obeys_lead(s),
-        _ => true,
-    }
-}
-
 // The rule of its own that a command's string has.
 fn own_rule(tame: bool, op: u8, s: &[u8]) -> bool
     requires { ⌜ (tame ≡ true → tameText (now s) ≡ true) ⌝ }
     ensures { λ r. ⌜ r ≡ ownRule op (now (s .entry)) ⌝ }
 {
-    if op == BEGIN {
-        return is_record_path_of(tame, s);
+    match op {
+        BEGIN => is_record_path_of(tame, s),
+        INCLUDE_ITEM | EXCLUDE_ITEM => is_pattern_of(tame, s),
+        EXTENDS | REFERENCE => obeys_lead(s),
+        _ => true,
     }
-    item_rule(tame, op, s)
 }
 
 // Whether a command's string lies in the text and keeps the rules of all strings.
@@ -356,7 +343,7 @@ fn opener_of(op: u8) -> u8
 }
 
 // How many of a command a record may have, of targets a key; 0 where it comes once.
-pub fn limit_of(op: u8) -> u8
+fn limit_of(op: u8) -> u8
     requires { ⌜ op < 21 ⌝ }
     ensures { λ r. ⌜ (r ≡ getD limits op 0) × (r ≤ 64) ⌝ }
 {
@@ -370,7 +357,7 @@ pub fn limit_of(op: u8) -> u8
 }
 
 // What the command must come after is there. Of the commands before there are counts, of each slot.
-pub fn is_opened(counts: &[u8], op: u8) -> bool
+fn is_opened(counts: &[u8], op: u8) -> bool
     requires { ⌜ (op < 21) × (length (now counts) ≡ 39) ⌝ }
     ensures { λ r. ⌜ r ≡ (eqb (getD openers op 0) 0 || not (eqb (has (now (counts .entry)) (getD openers op 0)) 0)) ⌝ }
 {
@@ -578,7 +565,7 @@ fn is_marked(marks: &[u8], mark: u8) -> bool
 
 // Whether s, whose digest is given, is the key of one of the first m rows, whose digests are the marks: the rows are looked at only where
 // that digest is one of the marks, be it one of a row that is not in use.
-fn is_known(
+pub fn is_known(
     text: &[u8],
     starts: &[usize],
     lens: &[usize],
@@ -596,38 +583,6 @@ fn is_known(
         return false;
     }
     is_met(false, text, starts, lens, marks, m, s, mark)
-}
-
-// A key's row put into the table, whose digests are km; how many rows there are then, or MET where the key was given before.
-pub fn put_key(
-    text: &[u8],
-    ks: &mut [usize],
-    kl: &mut [usize],
-    km: &mut [u8],
-    m: usize,
-    c: Cmd,
-) -> usize
-    requires { ⌜ (c .op ≡ key → (m < 32)) × ((length (now ks) ≡ 32) × ((length (now kl) ≡ 32) × (length (now km) ≡ 32))) ⌝ }
-    requires { ⌜ Table (now text) (now ks) (now kl) m × Marked (now text) (now ks) (now kl) (now km) m ⌝ }
-    ensures { λ r. ⌜ r ≡ cond (eqb (c .op) key) (cond (someOf (meets false (textOf (now (text .entry)) c)) (texts (now (text .entry)) (now (ks .entry)) (now (kl .entry)) m)) 33 (m + 1)) m ⌝ }
-    ensures { λ r. ⌜ now (ks .exit) ≡ cond (eqb (c .op) key) (set (now (ks .entry)) m (c .start)) (now (ks .entry)) ⌝ }
-    ensures { λ r. ⌜ now (kl .exit) ≡ cond (eqb (c .op) key) (set (now (kl .entry)) m (c .len)) (now (kl .entry)) ⌝ }
-    ensures { λ r. ⌜ now (km .exit) ≡ cond (eqb (c .op) key) (set (now (km .entry)) m (digestOf (textOf (now (text .entry)) c))) (now (km .entry)) ⌝ }
-{
-    let op = c.op;
-    if op != KEY {
-        return m;
-    }
-    let s = string_of(text, c);
-    let mark = digest(s);
-    let met = is_known(text, ks, kl, km, m, s, mark);
-    ks[m] = c.start;
-    kl[m] = c.len;
-    km[m] = mark;
-    if met {
-        return MET;
-    }
-    m + 1
 }
 
 pub enum Checked {

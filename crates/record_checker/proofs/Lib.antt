@@ -1,2 +1,3 @@
--- The laws of usual commands that are passed.
+-- The laws of commands that are taken in passing, and of those that are looked at.
 pub mod Passes
+pub mod Ends

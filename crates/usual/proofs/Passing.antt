@@ -1,12 +1,14 @@
 -- A command that fits is usual, and so is one without operands that comes for the first time. Assumes nothing.
 use mathlib.Core.Path.{_≡_, refl, sym, ap, subst, _∙_}
-use mathlib.Core.List.{List, []}
+use mathlib.Core.List.{List, [], _∷_}
 use mathlib.Core.Bool.{Bool, true, false, not, _&&_, _||_, cond, true≢false, or-true}
+use mathlib.Core.Option.{none}
 use Prim.Native.Nat.{ℕ, _+_, _-_, _≤_, _<_}
 use native.Mathlib.Omega.{arith}
 use lib.ListN.{length, getD, set, drop, length-set}
 use lib.Seq.{drop-cons, getD-set-same, getD-set-other}
 use lib.Dec.{T, eqb, leb, ltb}
+use types.Run.{OneOf}
 use borrow.Author.Tests.{eq-eqb, ne-eqb, le-leb, lt-leb, eqb-true, eqb-false, leb-false, ltb-true, lt-ltb}
 use Rattle.text.specs.Bytes.{Text}
 use Rattle.text.specs.Text.{eachOf}
@@ -18,11 +20,12 @@ use Rattle.strings.proofs.Tame.{and-left, and-right}
 use Rattle.book.specs.Command.{begin, key, target, flag, textOption, end, widths, widthOf, operands}
 use Rattle.book.specs.Rules.{slot, inRange, openers, limits, inOrder, tooMany, textOf, ownRule, goodString, givenBefore, faultOf}
 use Rattle.book.specs.Steps.{stepAt}
-use Rattle.book.specs.State.{has, pushed}
-use Rattle.book.proofs.Table.{every, at-each, T-true}
+use Rattle.book.specs.State.{has, pushed, Slotted}
+use Rattle.book.proofs.Table.{every, at-each, at-keys, T-true}
 use Rattle.book.proofs.Steps.{step-command}
 use Rattle.book.proofs.Keeps.{order-on, many-once, many-on}
 use Rattle.usual.specs.Usual.{fitting, mostOf, Usual, Passed, still, more}
+use Rattle.usual.proofs.Most.{Now}
 
 not-left : (a : Bool) → not a ≡ true → a ≡ false
 not-left true e = absurd (true≢false (sym e))
@@ -49,26 +52,27 @@ pub read-op : (part : Text) (at op : ℕ) (c : Cmd) → at < length part → get
 unfolding operands
 read-op part at op c h b e = ap (λ (x : Cmd). x .op) e ∙ rw (drop-cons part at 0 h) b
 
--- whether a command that is a byte alone is counted, by the tests of the code: o is whether it is opened
-module _ (ns : List ℕ) (op : ℕ) (o : Bool) (u : o ≡ (eqb (getD openers op 0) 0 || not (eqb (has ns (getD openers op 0)) 0))) where
-  pub counted-shut : o ≡ false →
-      (false ≡ ((eqb (getD openers op 0) 0 || not (eqb (has ns (getD openers op 0)) 0)) && eqb (has ns op) 0)) ×
-      (ns ≡ cond ((eqb (getD openers op 0) 0 || not (eqb (has ns (getD openers op 0)) 0)) && eqb (has ns op) 0) (set ns op 1) ns)
-  counted-shut f = (rw (← u, f) refl, rw (← u, f) refl)
+-- whether a command that is a byte alone is counted, by the tests of the code
+module _ (ns : List ℕ) (op : ℕ) where
+  pub counted-shut : getD ns 1 0 ≡ 0 →
+      (false ≡ (not (eqb (has ns begin) 0) && eqb (has ns op) 0)) ×
+      (ns ≡ cond (not (eqb (has ns begin) 0) && eqb (has ns op) 0) (set ns op 1) ns)
+  counted-shut z = (rw z refl, rw z refl)
 
-  pub counted-before : o ≡ true → (k : ℕ) → k ≡ op → (getD ns k 0 ≡ 0 → ⊥) →
-      (false ≡ ((eqb (getD openers op 0) 0 || not (eqb (has ns (getD openers op 0)) 0)) && eqb (has ns op) 0)) ×
-      (ns ≡ cond ((eqb (getD openers op 0) 0 || not (eqb (has ns (getD openers op 0)) 0)) && eqb (has ns op) 0) (set ns op 1) ns)
-  counted-before t k q n =
-      let e : eqb (has ns op) 0 ≡ false = ne-eqb _ _ (subst (λ (i : ℕ). getD ns i 0 ≡ 0 → ⊥) q n) in
-      (rw (← u, t, e) refl, rw (← u, t, e) refl)
+  module _ (begun : getD ns 1 0 ≡ 0 → ⊥) (k : ℕ) (q : k ≡ op) where
+    pub counted-before : (getD ns k 0 ≡ 0 → ⊥) →
+        (false ≡ (not (eqb (has ns begin) 0) && eqb (has ns op) 0)) ×
+        (ns ≡ cond (not (eqb (has ns begin) 0) && eqb (has ns op) 0) (set ns op 1) ns)
+    counted-before n =
+        let e : eqb (has ns op) 0 ≡ false = ne-eqb _ _ (subst (λ (i : ℕ). getD ns i 0 ≡ 0 → ⊥) q n) in
+        (rw (ne-eqb _ _ begun, e) refl, rw (ne-eqb _ _ begun, e) refl)
 
-  pub counted-now : o ≡ true → (k : ℕ) → k ≡ op → getD ns k 0 ≡ 0 →
-      (true ≡ ((eqb (getD openers op 0) 0 || not (eqb (has ns (getD openers op 0)) 0)) && eqb (has ns op) 0)) ×
-      (set ns k 1 ≡ cond ((eqb (getD openers op 0) 0 || not (eqb (has ns (getD openers op 0)) 0)) && eqb (has ns op) 0) (set ns op 1) ns)
-  counted-now t k q n =
-      let e : eqb (has ns op) 0 ≡ true = eq-eqb _ _ (subst (λ (i : ℕ). getD ns i 0 ≡ 0) q n) in
-      (rw (← u, t, e) refl, rw (← u, t, e, q) refl)
+    pub counted-now : getD ns k 0 ≡ 0 →
+        (true ≡ (not (eqb (has ns begin) 0) && eqb (has ns op) 0)) ×
+        (set ns k 1 ≡ cond (not (eqb (has ns begin) 0) && eqb (has ns op) 0) (set ns op 1) ns)
+    counted-now n =
+        let e : eqb (has ns op) 0 ≡ true = eq-eqb _ _ (subst (λ (i : ℕ). getD ns i 0 ≡ 0) q n) in
+        (rw (ne-eqb _ _ begun, e) refl, rw (ne-eqb _ _ begun, e, q) refl)
 
 -- what the table of widths tells of a command, by one test at each entry
 by-width : (w : ℕ) (f : ℕ → Bool) → T (every (λ i x. not (eqb x w) || f i) 0 widths) → (op : ℕ) → op < 21 → widthOf op ≡ w → f op ≡ true
@@ -82,6 +86,13 @@ pub known : (op w : ℕ) → widthOf op ≡ w → (w ≡ 9 → ⊥) → op < 21
 unfolding widthOf
 known op w e n = by-test (ltb op 21) (λ y. ltb-true op 21 y) (λ y. let z : 9 ≡ w = rw y at e in absurd (n (sym z)))
 
+-- the commands that are a byte alone, but for END
+abbrev pub lone : List ℕ
+lone = 2 ∷ 4 ∷ 6 ∷ 10 ∷ 14 ∷ []
+
+pub lone-small : (op : ℕ) → OneOf lone op → op < 21
+lone-small op h = ltb-true op 21 (at-keys (λ i. ltb i 21) lone tt op h)
+
 -- a command whose slot is its byte, of which what follows is known
 module _ (text : Text) (ns : List ℕ) (last : ℕ) (c : Cmd) (op : ℕ) (is : op ≡ c .op) (small : op < 21) (no-flag : op ≡ flag → ⊥) (no-text : op ≡ textOption → ⊥) where
   in-range : inRange c ≡ true
@@ -92,7 +103,10 @@ module _ (text : Text) (ns : List ℕ) (last : ℕ) (c : Cmd) (op : ℕ) (is : o
   unfolding slot
   slot-is = rw (← is, ne-eqb op flag no-flag, ne-eqb op textOption no-text) refl
 
-  module _ (no-begin : op ≡ begin → ⊥) (no-key : op ≡ key → ⊥) (no-end : op ≡ end → ⊥)
+  pub slotted : Slotted op c
+  slotted = record { inside = λ h. (in-range, slot-is); outside = λ h. absurd (omega (arith, h, small)) }
+
+  module _ (no-begin : op ≡ begin → ⊥)
       (follow : (not (eqb op target) || (eqb last key || eqb last target)) ≡ true)
       (unlocked : (eqb (getD openers op 0) 0 || not (eqb (has ns (getD openers op 0)) 0)) ≡ true)
       (room : has ns op < mostOf op) (good : goodString text c ≡ true) where
@@ -113,23 +127,25 @@ module _ (text : Text) (ns : List ℕ) (last : ℕ) (c : Cmd) (op : ℕ) (is : o
         let l : has ns op < getD limits op 0 = rw e at room in
         sym (many-on (has ns) last c op is n (getD limits op 0) op no-begin refl (eqb-false _ _ e) slot-is) ∙ lt-leb (getD limits op 0) (has ns op) l)
 
-    not-given : (keys paths : List Text) → givenBefore keys paths (c .op) (textOf text c) ≡ false
-    unfolding givenBefore
-    not-given keys paths = rw (← is, ne-eqb op begin no-begin, ne-eqb op key no-key) refl
-
-    pub usual : Usual text ns last op c
+    -- nothing is wrong with it if it was not given before
+    pub clear-of : (n : ℕ) (keys paths : List Text) → givenBefore keys paths (c .op) (textOf text c) ≡ false → faultOf text (has ns) last n keys paths c ≡ none
     unfolding faultOf
-    usual =
-        record {
-          slotted = record { inside = λ h. (in-range, slot-is); outside = λ h. absurd (omega (arith, h, small)) };
-          no-key = λ e. no-key (is ∙ e);
-          no-end = λ e. no-end (is ∙ e);
-          clear = λ n keys paths. rw (order, good, few n, not-given keys paths) refl;
-        }
+    clear-of n keys paths g = rw (order, good, few n, g) refl
 
-    pub pushed-one : pushed ns c op ≡ set ns op (has ns op + 1)
-    unfolding pushed
-    pushed-one = rw (← is, ne-eqb op 11 no-key) refl
+    module _ (no-key : op ≡ key → ⊥) where
+      not-given : (keys paths : List Text) → givenBefore keys paths (c .op) (textOf text c) ≡ false
+      unfolding givenBefore
+      not-given keys paths = rw (← is, ne-eqb op begin no-begin, ne-eqb op key no-key) refl
+
+      pub clear-still : (n : ℕ) (keys paths : List Text) → faultOf text (has ns) last n keys paths c ≡ none
+      clear-still n keys paths = clear-of n keys paths (not-given keys paths)
+
+      pub pushed-one : pushed ns c op ≡ set ns op (has ns op + 1)
+      unfolding pushed
+      pushed-one = rw (← is, ne-eqb op 11 no-key) refl
+
+      pub usual : (op ≡ end → ⊥) → Usual text ns last op c
+      usual no-end = record { slotted = slotted; no-key = λ e. no-key (is ∙ e); no-end = λ e. no-end (is ∙ e); clear = clear-still }
 
 pub recast : (part text : Text) (ns₀ : List ℕ) (last at : ℕ) {ns ns′ : List ℕ} {l l′ p p′ : ℕ} → ns ≡ ns′ → l ≡ l′ → p ≡ p′ → Passed part text ns₀ last at ns l p → Passed part text ns₀ last at ns′ l′ p′
 recast part text ns₀ last at a b d x = rw (← a, ← b, ← d) x
@@ -153,23 +169,24 @@ module _ (part text : Text) (ns₀ : List ℕ) (last at : ℕ) where
   pub stay : (x : ℕ) → Passed part text ns₀ last at ns₀ (cond (eqb at at) last x) at
   stay x = rw (eq-eqb at at refl) still
 
-  module _ (op : ℕ) (w : widthOf op ≡ 4) (no-begin : op ≡ begin → ⊥) (no-key : op ≡ key → ⊥) where
+  module _ (op : ℕ) {most : ℕ} (now : Now ns₀ last op most) where
+    w : widthOf op ≡ 4
+    w = now .width
+
     small : op < 21
     small = known op 4 w (λ e. absurd (omega (arith, e)))
 
     told : (f : ℕ → Bool) → T (every (λ i x. not (eqb x 4) || f i) 0 widths) → f op ≡ true
     told f t = by-width 4 f t op small w
 
-    pub run-none : (r : Bool) → r ≡ (not (eqb op target) || (eqb last key || eqb last target)) → r ≡ true →
-        (o : Bool) → o ≡ (eqb (getD openers op 0) 0 || not (eqb (has ns₀ (getD openers op 0)) 0)) → o ≡ true →
-        length ns₀ ≡ 39 → at ≤ length part → (k : ℕ) → k ≡ op → Running part text ns₀ last at op ns₀ (getD ns₀ k 0) at
-    run-none r e t o g u l h k q =
+    pub run-none : length ns₀ ≡ 39 → at ≤ length part → (k : ℕ) → k ≡ op → Running part text ns₀ last at op ns₀ (getD ns₀ k 0) at
+    run-none l h k q =
         record {
           latest = last;
           passed = still;
           said = rw (eq-eqb at at refl) refl;
-          follow = sym e ∙ t;
-          unlocked = sym g ∙ u;
+          follow = now .follow;
+          unlocked = now .unlocked;
           count = ap (λ (i : ℕ). getD ns₀ i 0) q;
           size = l;
           place = h;
@@ -206,16 +223,19 @@ module _ (part text : Text) (ns₀ : List ℕ) (last at : ℕ) where
         unfolding cmd
         reads = sym (step-command part to 4 (operands 4 (drop to part)) (omega (arith, long)) (sym (ap widthOf byte ∙ w)) (λ e. absurd (omega (arith, e))) long refl)
 
-        module _ (room : m < mostOf op) where
+        module _ (left : m < most) where
+          room : has ns op < mostOf op
+          room = omega (arith, left, s .count, now .is)
+
           taken : Usual text ns (s .latest) op cmd
           taken =
-              usual text ns (s .latest) cmd op op-is small (no-eqb op flag (told (λ i. not (eqb i flag)) tt)) (no-eqb op textOption (told (λ i. not (eqb i textOption)) tt)) no-begin no-key (no-eqb op end (told (λ i. not (eqb i end)) tt))
-              (s .follow) (s .unlocked) (subst (λ (i : ℕ). i < mostOf op) (s .count) room) good
+              usual text ns (s .latest) cmd op op-is small (no-eqb op flag (told (λ i. not (eqb i flag)) tt)) (no-eqb op textOption (told (λ i. not (eqb i textOption)) tt)) (now .no-begin)
+              (s .follow) (s .unlocked) room good (now .no-key) (no-eqb op end (told (λ i. not (eqb i end)) tt))
 
           counted : pushed ns cmd op ≡ set ns op (m + 1)
           counted =
-              pushed-one text ns (s .latest) cmd op op-is small (no-eqb op flag (told (λ i. not (eqb i flag)) tt)) (no-eqb op textOption (told (λ i. not (eqb i textOption)) tt)) no-begin no-key (no-eqb op end (told (λ i. not (eqb i end)) tt))
-              (s .follow) (s .unlocked) (subst (λ (i : ℕ). i < mostOf op) (s .count) room) good ∙ ap (λ (i : ℕ). set ns op (i + 1)) (sym (s .count))
+              pushed-one text ns (s .latest) cmd op op-is small (no-eqb op flag (told (λ i. not (eqb i flag)) tt)) (no-eqb op textOption (told (λ i. not (eqb i textOption)) tt)) (now .no-begin)
+              (s .follow) (s .unlocked) room good (now .no-key) ∙ ap (λ (i : ℕ). set ns op (i + 1)) (sym (s .count))
 
           another : getD openers op 0 ≡ op → ⊥
           another = no-eqb (getD openers op 0) op (told (λ i. not (eqb (getD openers i 0) i)) tt)
@@ -238,17 +258,17 @@ module _ (part text : Text) (ns₀ : List ℕ) (last at : ℕ) where
           run-more k q = rw q run-here
 
   -- a command that is a byte alone
-  module _ (op : ℕ) (b : Bool) (bv : b ≡ ((eqb (getD openers op 0) 0 || not (eqb (has ns₀ (getD openers op 0)) 0)) && eqb (has ns₀ op) 0))
-      (ns : List ℕ) (nv : ns ≡ cond ((eqb (getD openers op 0) 0 || not (eqb (has ns₀ (getD openers op 0)) 0)) && eqb (has ns₀ op) 0) (set ns₀ op 1) ns₀) where
+  module _ (op : ℕ) (b : Bool) (bv : b ≡ (not (eqb (has ns₀ begin) 0) && eqb (has ns₀ op) 0))
+      (ns : List ℕ) (nv : ns ≡ cond (not (eqb (has ns₀ begin) 0) && eqb (has ns₀ op) 0) (set ns₀ op 1) ns₀) where
     pub lone-not : b ≡ false → (x : ℕ) → Passed part text ns₀ last at ns (cond (eqb at at) last x) at
     lone-not f x = recast part text ns₀ last at (sym (nv ∙ rw (← bv, f) refl)) refl refl (stay x)
 
-    module _ (h : at < length part) (is : op ≡ getD part at 0) (w : widthOf op ≡ 0) (no-end : op ≡ end → ⊥) (yes : b ≡ true) where
-      lone-small : op < 21
-      lone-small = known op 0 w (λ e. absurd (omega (arith, e)))
+    module _ (h : at < length part) (is : op ≡ getD part at 0) (among : OneOf lone op) (yes : b ≡ true) where
+      alone : (f : ℕ → Bool) → T (every (λ i k. f k) 0 lone) → f op ≡ true
+      alone f t = at-keys f lone t op among
 
-      lone-told : (f : ℕ → Bool) → T (every (λ i x. not (eqb x 0) || f i) 0 widths) → f op ≡ true
-      lone-told f t = by-width 0 f t op lone-small w
+      small-lone : op < 21
+      small-lone = lone-small op among
 
       lone-cmd : Cmd
       lone-cmd = operands 0 (drop at part)
@@ -259,32 +279,37 @@ module _ (part text : Text) (ns₀ : List ℕ) (last at : ℕ) where
 
       lone-good : goodString text lone-cmd ≡ true
       unfolding goodString lone-cmd operands textOf ownRule stringRule eachOf
-      lone-good = rw (← lone-op, le-leb (0 + 0) (length text) (omega arith)) (lone-told (λ i. ownRule i []) tt)
+      lone-good = rw (← lone-op, le-leb (0 + 0) (length text) (omega arith)) (alone (λ i. ownRule i []) tt)
 
       lone-reads : stepAt part at ≡ Command lone-cmd (record { at = at + 0 + 1 })
-      unfolding lone-cmd
-      lone-reads = sym (step-command part at 0 (operands 0 (drop at part)) h (sym (ap widthOf (sym is) ∙ w)) (λ e. absurd (omega (arith, e))) (omega (arith, h)) refl)
+      unfolding lone-cmd widthOf
+      lone-reads =
+          sym (step-command part at 0 (operands 0 (drop at part)) h (sym (ap widthOf (sym is) ∙ eqb-true (widthOf op) 0 (alone (λ i. eqb (widthOf i) 0) tt)))
+          (λ e. absurd (omega (arith, e))) (omega (arith, h)) refl)
+
+      begun-here : eqb (has ns₀ begin) 0 ≡ false
+      begun-here = not-left _ (and-left _ (eqb (has ns₀ op) 0) (sym bv ∙ yes))
 
       unlocked-here : (eqb (getD openers op 0) 0 || not (eqb (has ns₀ (getD openers op 0)) 0)) ≡ true
-      unlocked-here = and-left _ (eqb (has ns₀ op) 0) (sym bv ∙ yes)
+      unlocked-here = rw (eqb-true (getD openers op 0) begin (alone (λ i. eqb (getD openers i 0) begin) tt), begun-here) refl
 
       first : has ns₀ op ≡ 0
-      first = eqb-true (has ns₀ op) 0 (and-right (eqb (getD openers op 0) 0 || not (eqb (has ns₀ (getD openers op 0)) 0)) _ (sym bv ∙ yes))
+      first = eqb-true (has ns₀ op) 0 (and-right (not (eqb (has ns₀ begin) 0)) _ (sym bv ∙ yes))
 
       lone-room : has ns₀ op < mostOf op
-      lone-room = rw (lone-told (λ i. eqb (getD limits i 0) 0) tt, first) (omega arith)
+      lone-room = rw (alone (λ i. eqb (getD limits i 0) 0) tt, first) (omega arith)
 
-      no-such : (k : ℕ) → T (every (λ i x. not (eqb x 0) || not (eqb i k)) 0 widths) → op ≡ k → ⊥
-      no-such k t = no-eqb op k (lone-told (λ i. not (eqb i k)) t)
+      no-such : (k : ℕ) → T (every (λ i x. not (eqb x k)) 0 lone) → op ≡ k → ⊥
+      no-such k t = no-eqb op k (alone (λ i. not (eqb i k)) t)
 
       pub lone-on : Passed part text ns₀ last at ns (cond (eqb (at + 1) at) last op) (at + 1)
       lone-on =
           recast part text ns₀ last at
-          (pushed-one text ns₀ last lone-cmd op lone-op lone-small (no-such flag tt) (no-such textOption tt) (no-such begin tt) (no-such key tt) no-end
-          (lone-told (λ i. not (eqb i target) || (eqb last key || eqb last target)) tt) unlocked-here lone-room lone-good
+          (pushed-one text ns₀ last lone-cmd op lone-op small-lone (no-such flag tt) (no-such textOption tt) (no-such begin tt)
+          (alone (λ i. not (eqb i target) || (eqb last key || eqb last target)) tt) unlocked-here lone-room lone-good (no-such key tt)
           ∙ rw first (sym (nv ∙ rw (← bv, yes) refl)))
           (sym lone-op ∙ sym (rw (ne-eqb (at + 1) at (λ e. absurd (omega (arith, e)))) refl))
           (omega arith)
           (more still lone-reads
-          (usual text ns₀ last lone-cmd op lone-op lone-small (no-such flag tt) (no-such textOption tt) (no-such begin tt) (no-such key tt) no-end
-          (lone-told (λ i. not (eqb i target) || (eqb last key || eqb last target)) tt) unlocked-here lone-room lone-good))
+          (usual text ns₀ last lone-cmd op lone-op small-lone (no-such flag tt) (no-such textOption tt) (no-such begin tt)
+          (alone (λ i. not (eqb i target) || (eqb last key || eqb last target)) tt) unlocked-here lone-room lone-good (no-such key tt) (no-such end tt)))

@@ -85,7 +85,7 @@ only-begin k h e = eqb-true k 1 (or-right (eqb k 1) (not (eqb (getD openers k 0)
 
 -- what the rules of order say of a command that keeps them
 module _ (count : ℕ → ℕ) (last : ℕ) (c : Cmd) (o : inOrder count last c ≡ true) where
-  was-opened : opened count last c ≡ true
+  pub was-opened : opened count last c ≡ true
   unfolding inOrder
   was-opened = and-left (opened count last c) _ (and-right (inRange c) _ o)
 
@@ -102,6 +102,11 @@ module _ (count : ℕ → ℕ) (last : ℕ) (c : Cmd) (o : inOrder count last c 
   begin-first : c .op ≡ begin → count begin ≡ 0
   unfolding fresh slot
   begin-first e = eqb-true (count begin) 0 (let w : eqb (count begin) 0 ≡ true = rw e at was-fresh in w)
+
+  -- an END is the first
+  pub end-first : c .op ≡ end → count end ≡ 0
+  unfolding fresh slot
+  end-first e = eqb-true (count end) 0 (let w : eqb (count end) 0 ≡ true = rw e at was-fresh in w)
 
   pub count-small : (n : ℕ) → c .op < 21 → tooMany count last c n ≡ false → count (slot c) < 255
   unfolding fresh tooMany
@@ -443,43 +448,16 @@ module _ (part : Text) (base : ℕ) (text : Text) (ps pl : List ℕ) (n : ℕ) w
         turn-refused z = turn-fault (fault-kept text (has ns) last n (texts text ks kl m) (texts text ps pl n) c f d z) z
 
         module _ (z : f ≡ 0) where
-          pub key-room : c .op ≡ key → m < 32
-          key-room y =
-              let w = clear text (has ns) last n [] (texts text ps pl n) c (sym d ∙ z) in
-              subst (λ (j : ℕ). j < 32) (sym (s .count)) (keys-few (has ns) last c (w .order) n y (w .few))
+          given : number (faultOf text (has ns) last n (texts text ks kl m) (texts text ps pl n) c) ≡ number (cond (cond (eqb (c .op) key) (someOf (meets false (textOf text c)) (texts text ks kl m)) false) (some 6) none)
+          given = fault-given text (has ns) last n (texts text ks kl m) (texts text ps pl n) c (sym d ∙ z)
 
-          -- m′ is how many keys there are then, 33 where the command is a key given before
-          module _ {m′ : ℕ} (am : m′ ≡ cond (eqb (c .op) key) (cond (someOf (meets false (textOf text c)) (texts text ks kl m)) 33 (m + 1)) m) where
-            given : number (faultOf text (has ns) last n (texts text ks kl m) (texts text ps pl n) c) ≡ number (cond (cond (eqb (c .op) key) (someOf (meets false (textOf text c)) (texts text ks kl m)) false) (some 6) none)
-            given = fault-given text (has ns) last n (texts text ks kl m) (texts text ps pl n) c (sym d ∙ z)
+          -- a key given before
+          pub turn-met : c .op ≡ key → someOf (meets false (textOf text c)) (texts text ks kl m) ≡ true → (records : List (List Cmd)) → Held text ps pl n records → judge text (record { records = records; here = [] }) (decode 0 base part) ≡ refused 6 (base + at)
+          turn-met k g = turn-fault {f = 6} (sym (given ∙ rw (eq-eqb _ _ k, g) refl)) (λ h. absurd (omega (arith, h)))
 
-            sixth : m′ ≡ 33 → 6 ≡ number (faultOf text (has ns) last n (texts text ks kl m) (texts text ps pl n) c)
-            sixth q =
-                by-test (eqb (c .op) key)
-                (λ k. by-test (someOf (meets false (textOf text c)) (texts text ks kl m))
-                (λ g. sym (given ∙ rw (k, g) refl))
-                (λ g. let y : m′ ≡ m + 1 = rw (k, g) at am in absurd (omega (arith, y, q, key-room (eqb-true (c .op) key k)))))
-                (λ k. let y : m′ ≡ m = rw k at am in absurd (omega (arith, y, q, s .table .starts-there, s .rows .0)))
-
-            pub turn-met : m′ ≡ 33 → (records : List (List Cmd)) → Held text ps pl n records → judge text (record { records = records; here = [] }) (decode 0 base part) ≡ refused 6 (base + at)
-            turn-met q = turn-fault (sixth q) (λ h. absurd (omega (arith, h)))
-
-            module _ (q : m′ ≡ 33 → ⊥) where
-              pub clear-on : 0 ≡ number (faultOf text (has ns) last n (texts text ks kl m) (texts text ps pl n) c)
-              clear-on =
-                  by-test (eqb (c .op) key)
-                  (λ k. by-test (someOf (meets false (textOf text c)) (texts text ks kl m))
-                  (λ g. let y : m′ ≡ 33 = rw (k, g) at am in absurd (q y))
-                  (λ g. sym (given ∙ rw (k, g) refl)))
-                  (λ k. sym (given ∙ rw k refl))
-
-              pub rows-on : m′ ≡ cond (eqb (c .op) key) (m + 1) m
-              rows-on =
-                  by-test (eqb (c .op) key)
-                  (λ k. by-test (someOf (meets false (textOf text c)) (texts text ks kl m))
-                  (λ g. let y : m′ ≡ 33 = rw (k, g) at am in absurd (q y))
-                  (λ g. let y : m′ ≡ m + 1 = rw (k, g) at am in rw k y))
-                  (λ k. let y : m′ ≡ m = rw k at am in rw k y)
+          -- any other command
+          pub clear-on : (c .op ≡ key → ⊥) → 0 ≡ number (faultOf text (has ns) last n (texts text ks kl m) (texts text ps pl n) c)
+          clear-on k = sym (given ∙ rw (ne-eqb _ _ k) refl)
 
   -- before the first command
   pub sofar-none : (ns : List ℕ) (last : ℕ) (ks kl km : List ℕ) → ns ≡ replicate 39 0 → last ≡ 0 → length ks ≡ 32 → length kl ≡ 32 → length km ≡ 32 → Sofar ns last ks kl km 0 0

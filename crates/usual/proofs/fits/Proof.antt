@@ -12,7 +12,7 @@ use Rattle.usual.proofs.fits.Tie as tie
 use Rattle.usual.proofs.fits.Reads as reads
 use Rattle.usual.proofs.fits.Lts as lts
 use Rattle.book.proofs.is_held.Reads as is-held-reads
-use Rattle.book.proofs.item_rule.Reads as item-rule-reads
+use Rattle.usual.proofs.item_rule.Reads as item-rule-reads
 use Rattle.book.proofs.read_span.Reads as read-span-reads
 use Rattle.book.proofs.string_of.Reads as string-of-reads
 use Rattle.text.proofs.from.Reads as from-reads
@@ -45,7 +45,7 @@ string-of-requires : tie.Need-string-of-requires
 string-of-requires c κs = search needs
 
 item-rule-requires : tie.Need-item-rule-requires
-item-rule-requires c κs = (c .before .before .before .before .before .before .before .before .before .before .pre .1 .0, λ e. tame-string _ _ (c .before .before .before .before .before .before .before .before .before .before .pre .1 .1) _ (c .string-of .ensures))
+item-rule-requires c κs = (c .before .before .before .before .before .before .before .before .before .before .pre .1 .0, tame-string _ _ (c .before .before .before .before .before .before .before .before .before .before .pre .1 .1) _ (c .string-of .ensures))
 
 returns-4 : tie.Need-returns-4
 returns-4 c = fit-on _ _ _ _ (omega (arith, c .before .before .before .before .before .before .before .before .if1 .left)) (c .before .before .before .before .before .before .if2 .left) _ (c .before .before .before .before .read-span .ensures ∙ ap (operands 4) (c .before .before .before .before .before .from .ensures)) _ (good-on (c .before .before .before .before .before .before .before .before .before .before .before .args .text .now) _ _ (c .before .before .before .is-held .ensures) (not-false _ (c .before .before .if3 .left)) _ (c .item-rule .ensures ∙ ap₂ ownRule (sym (read-op (c .before .before .before .before .before .before .before .before .before .before .before .args .part .now) (c .before .before .before .before .before .before .before .before .before .before .before .args .at) (c .before .before .before .before .before .before .before .before .before .before .before .args .op) _ (omega (arith, c .before .before .before .before .before .before .before .before .if1 .left)) (c .before .before .before .before .before .before .if2 .left) (c .before .before .before .before .read-span .ensures ∙ ap (operands 4) (c .before .before .before .before .before .from .ensures)))) (c .before .string-of .ensures)))

@@ -1,16 +1,16 @@
 use mathlib.Core.Path.{_∙_}
 use Rattle.book.proofs.Arms.{own-pattern, own-lead, own-none}
 use native.Mathlib.Omega.{arith}
 use borrow.Author.Needs.{needs}
-use Rattle.book.proofs.item_rule.Statement.{statement}
-use Rattle.book.proofs.item_rule.Tie as tie
-use Rattle.book.proofs.item_rule.Reads as reads
-use Rattle.book.proofs.item_rule.Lts as lts
+use Rattle.usual.proofs.item_rule.Statement.{statement}
+use Rattle.usual.proofs.item_rule.Tie as tie
+use Rattle.usual.proofs.item_rule.Reads as reads
+use Rattle.usual.proofs.item_rule.Lts as lts
 use Rattle.path_rules.proofs.obeys_lead.Reads as obeys-lead-reads
 use Rattle.patterns.proofs.is_pattern_of.Reads as is-pattern-of-reads
 
 is-pattern-of-requires : tie.Need-is-pattern-of-requires
-is-pattern-of-requires c κs = c .before .before .pre .1
+is-pattern-of-requires c κs = λ y. c .before .before .pre .1
 
 obeys-lead-requires : tie.Need-obeys-lead-requires
 obeys-lead-requires c κs = search needs
