@@ -14,7 +14,7 @@ use Rattle.book.specs.Command.{begin, key, target, widths, widthOf}
 use Rattle.book.specs.Rules.{openers, limits}
 use Rattle.book.specs.State.{has}
 use Rattle.book.proofs.Table.{every, spare, past, at-each, at-keys, T-true}
-use Rattle.book.proofs.Keeps.{limits-small}
+use Rattle.faults.proofs.Keeps.{limits-small}
 use Rattle.usual.specs.Usual.{mostOf, openNow, mostNow}
 
 -- behind an opener that is the byte f of the command's, at most m

@@ -23,7 +23,7 @@ use Rattle.book.specs.Steps.{stepAt}
 use Rattle.book.specs.State.{has, pushed, Slotted}
 use Rattle.book.proofs.Table.{every, at-each, at-keys, T-true}
 use Rattle.book.proofs.Steps.{step-command}
-use Rattle.book.proofs.Keeps.{order-on, many-once, many-on}
+use Rattle.faults.proofs.Keeps.{order-on, many-once, many-on}
 use Rattle.usual.specs.Usual.{fitting, mostOf, Usual, Passed, still, more}
 use Rattle.usual.proofs.Most.{Now}
 

@@ -18,7 +18,7 @@ use Rattle.book.specs.Record.{is, only}
 use Rattle.book.specs.Book.{judge, next, finish, nothing, verdict}
 use Rattle.book.specs.Sound.{All, nil, cons, Good, Sound}
 use Rattle.book.specs.State.{number}
-use Rattle.book.proofs.Keeps.{ranged}
+use Rattle.faults.proofs.Keeps.{ranged}
 use Rattle.verdicts.proofs.Turns.{clear}
 
 module _ {A : Type 0} (P : A → Type 0) where

@@ -29,9 +29,9 @@ use Rattle.book.specs.Checks.{Held, ClosedAs}
 use Rattle.book.specs.Steps.{stepAt}
 use Rattle.book.proofs.Steps.{decoded, decode-step, Moved, step-moves, step-ends, step-begins}
 use Rattle.text.proofs.Picks.{by-test}
-use Rattle.book.proofs.Keeps.{in-slot, agree-push, agree-none, limits-small, slot-key}
+use Rattle.faults.proofs.Keeps.{in-slot, agree-push, agree-none, limits-small, slot-key}
 use Rattle.book.proofs.Table.{at-each}
-use Rattle.book.proofs.Faults.{good-within, fault-kept, fault-given}
+use Rattle.faults.proofs.Faults.{good-within, fault-kept, fault-given}
 
 -- what a command without a fault is
 pub record Clear (text : Text) (count : ℕ → ℕ) (last n : ℕ) (keys paths : List Text) (c : Cmd) : Type 0 where

@@ -6,13 +6,13 @@ here=$(cd "$(dirname "$0")" && pwd)
 root=$(cd "$here/../../.." && pwd)
 scratch=${1:-$(mktemp -d)}
 mkdir -p "$scratch/crates/speed/src"
-for crate in text names emit components component_walk ends path join strings normal path_rules patterns compare book verdicts usual record_checker checker; do
+for crate in text names emit components component_walk ends path join strings normal path_rules patterns compare book meeting faults verdicts usual record_checker checker; do
     rm -rf "$scratch/crates/$crate"
     cp -r "$root/crates/$crate" "$scratch/crates/"
 done
 cp "$here/wrapper.txt" "$scratch/crates/speed/src/lib.rt"
-grep -E '^(text|names|emit|components|component_walk|ends|path|join|strings|normal|path_rules|patterns|compare|book|verdicts|usual|record_checker|checker):' "$root/crates.txt" >"$scratch/crates.txt"
-echo 'speed: text names emit components component_walk ends path join strings normal path_rules patterns compare book verdicts usual record_checker checker' >>"$scratch/crates.txt"
+grep -E '^(text|names|emit|components|component_walk|ends|path|join|strings|normal|path_rules|patterns|compare|book|meeting|faults|verdicts|usual|record_checker|checker):' "$root/crates.txt" >"$scratch/crates.txt"
+echo 'speed: text names emit components component_walk ends path join strings normal path_rules patterns compare book meeting faults verdicts usual record_checker checker' >>"$scratch/crates.txt"
 if [ ! -d "$scratch/target" ] && [ -d "$root/target" ]; then cp -r "$root/target" "$scratch/target"; fi
 (cd "$scratch" && rt staticlib speed >"$scratch/rt.log" 2>&1) || { tail "$scratch/rt.log"; exit 1; }
 export PROVED="$scratch/target/staticlib"

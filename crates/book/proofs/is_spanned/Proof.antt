@@ -1,5 +1,5 @@
 use Rattle.book.specs.Command.{widthOf}
-use Rattle.book.proofs.Arms.{span-keys, span-low, span-in, span-out, span-high}
+use Rattle.book.proofs.Widths.{span-keys, span-low, span-in, span-out, span-high}
 use native.Mathlib.Omega.{arith}
 use Rattle.book.proofs.is_spanned.Statement.{statement}
 use Rattle.book.proofs.is_spanned.Tie as tie

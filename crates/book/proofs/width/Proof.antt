@@ -1,6 +1,6 @@
 use mathlib.Core.List.{[], _∷_}
 use Rattle.book.specs.Command.{widthOf}
-use Rattle.book.proofs.Arms.{bare, width-keys, width-rest}
+use Rattle.book.proofs.Widths.{bare, width-keys, width-rest}
 use Rattle.book.proofs.width.Statement.{statement}
 use Rattle.book.proofs.width.Tie as tie
 

@@ -13,9 +13,9 @@ use Rattle.record_checker.proofs.check_record.Tie as tie
 use Rattle.record_checker.proofs.check_record.Reads as reads
 use Rattle.record_checker.proofs.check_record.Lts as lts
 use Rattle.book.proofs.Cursor.step.Reads as step-reads
-use Rattle.book.proofs.fault_of.Reads as fault-of-reads
-use Rattle.book.proofs.push.Reads as push-reads
-use Rattle.book.proofs.slot_of.Reads as slot-of-reads
+use Rattle.faults.proofs.fault_of.Reads as fault-of-reads
+use Rattle.faults.proofs.push.Reads as push-reads
+use Rattle.faults.proofs.slot_of.Reads as slot-of-reads
 use Rattle.book.proofs.word_at.Reads as word-at-reads
 use Rattle.record_checker.proofs.is_ended.Reads as is-ended-reads
 use Rattle.usual.proofs.pass.Reads as pass-reads

@@ -5,13 +5,13 @@ use borrow.Author.Tests.{not-true, not-false}
 use lib.ListN.{length-drop}
 use Rattle.book.specs.Command.{operands}
 use Rattle.book.specs.Rules.{ownRule}
-use Rattle.book.proofs.Keeps.{good-not, good-on, tame-string}
+use Rattle.faults.proofs.Keeps.{good-not, good-on, tame-string}
 use borrow.Author.Needs.{needs}
 use Rattle.usual.proofs.fits.Statement.{statement}
 use Rattle.usual.proofs.fits.Tie as tie
 use Rattle.usual.proofs.fits.Reads as reads
 use Rattle.usual.proofs.fits.Lts as lts
-use Rattle.book.proofs.is_held.Reads as is-held-reads
+use Rattle.faults.proofs.is_held.Reads as is-held-reads
 use Rattle.usual.proofs.item_rule.Reads as item-rule-reads
 use Rattle.book.proofs.read_span.Reads as read-span-reads
 use Rattle.book.proofs.string_of.Reads as string-of-reads

@@ -1,5 +1,5 @@
 use mathlib.Core.Path.{_∙_}
-use Rattle.book.proofs.Arms.{own-pattern, own-lead, own-none}
+use Rattle.faults.proofs.Arms.{own-pattern, own-lead, own-none}
 use native.Mathlib.Omega.{arith}
 use borrow.Author.Needs.{needs}
 use Rattle.usual.proofs.item_rule.Statement.{statement}

@@ -6,7 +6,7 @@ use Rattle.usual.proofs.most_targets.Statement.{statement}
 use Rattle.usual.proofs.most_targets.Tie as tie
 use Rattle.usual.proofs.most_targets.Reads as reads
 use Rattle.usual.proofs.most_targets.Lts as lts
-use Rattle.book.proofs.does_follow.Reads as does-follow-reads
+use Rattle.faults.proofs.does_follow.Reads as does-follow-reads
 use Rattle.usual.proofs.most_behind.Reads as most-behind-reads
 
 does-follow-requires : tie.Need-does-follow-requires

@@ -12,8 +12,8 @@ use Rattle.usual.proofs.pass_key.Statement.{statement}
 use Rattle.usual.proofs.pass_key.Tie as tie
 use Rattle.usual.proofs.pass_key.Reads as reads
 use Rattle.usual.proofs.pass_key.Lts as lts
-use Rattle.book.proofs.is_held.Reads as is-held-reads
-use Rattle.book.proofs.is_known.Reads as is-known-reads
+use Rattle.faults.proofs.is_held.Reads as is-held-reads
+use Rattle.meeting.proofs.is_known.Reads as is-known-reads
 use Rattle.book.proofs.read_span.Reads as read-span-reads
 use Rattle.book.proofs.string_of.Reads as string-of-reads
 use Rattle.book.proofs.wide.Reads as wide-reads

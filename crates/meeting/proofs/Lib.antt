@@ -1,0 +1,3 @@
+-- The laws of strings that meet.
+pub mod Rows
+pub mod Marks
