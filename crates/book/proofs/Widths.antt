@@ -1,20 +1,14 @@
 -- The table of widths as the arms of a match. Assumes nothing.
 use mathlib.Core.Path.{_≡_, refl, sym, subst}
 use mathlib.Core.List.{List, [], _∷_}
-use mathlib.Core.Bool.{Bool, true, false, not, _||_, cond}
-use mathlib.Core.Logic.{inl, inr}
+use mathlib.Core.Bool.{Bool, true, false, not, _||_}
 use Prim.Native.Nat.{ℕ, _-_, _≤_, _<_}
 use native.Mathlib.Omega.{arith}
-use lib.ListN.{getD}
-use lib.Dec.{T, eqb, leb, ltb}
+use lib.Dec.{T, eqb, ltb}
 use types.Run.{OneOf}
-use borrow.Author.Tests.{ne-eqb, eqb-true, leb-true, ltb-true, lt-ltb, le-ltb, not-true}
+use borrow.Author.Tests.{eqb-true, ltb-true, lt-ltb, le-ltb, not-true}
 use Rattle.text.proofs.Picks.{by-test}
-use Rattle.text.specs.Bytes.{Text}
-use Rattle.path_rules.specs.Paths.{recordPath, leadRule}
-use Rattle.patterns.specs.Patterns.{patternRule}
-use Rattle.book.specs.Command.{begin, widths, widthOf}
-use Rattle.book.specs.Rules.{openers, limits, ownRule}
+use Rattle.book.specs.Command.{widths, widthOf}
 use Rattle.book.proofs.Table.{every, spare, past, at-each, at-keys, T-true}
 
 -- the commands without operands

@@ -1,7 +1,7 @@
 -- The verdict on a book (01's term for commands and text lent together): accepted, with its records, or refused, with number and place.
-use Prim.Native.Nat.{ℕ, zero, suc}
+use Prim.Native.Nat.{ℕ}
 use mathlib.Core.List.{List, [], _∷_, reverse, map}
-use mathlib.Core.Bool.{Bool, true, false, _||_, cond}
+use mathlib.Core.Bool.{_||_, cond}
 use lib.ListN.{length}
 use lib.Dec.{eqb, ltb}
 use Rattle.text.specs.Bytes.{Text}

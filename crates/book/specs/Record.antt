@@ -7,7 +7,7 @@ use lib.Dec.{eqb}
 use Rattle.text.specs.Bytes.{Text}
 use Rattle.text.specs.Text.{someOf}
 use Rattle.book.specs.declared.Cmd.{Cmd}
-use Rattle.book.specs.Command.{begin, extends, paths, key, target, reference, flag, textOption}
+use Rattle.book.specs.Command.{begin, paths, key, target, flag, textOption}
 use Rattle.book.specs.Rules.{textOf}
 
 -- a key of `paths` and its targets

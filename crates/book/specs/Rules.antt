@@ -1,10 +1,10 @@
 -- For one command, given those before it, the lowest refusal that applies.
-use Prim.Native.Nat.{ℕ, zero, suc, _+_}
+use Prim.Native.Nat.{ℕ, suc, _+_}
 use mathlib.Core.List.{List, [], _∷_, map}
 use mathlib.Core.Bool.{Bool, true, false, not, _&&_, _||_, cond}
 use mathlib.Core.Option.{Option, some, none}
 use lib.ListN.{length, getD, take, drop}
-use lib.Dec.{eqb, leb, ltb}
+use lib.Dec.{eqb, leb}
 use Rattle.book.specs.declared.Cmd.{Cmd}
 use Rattle.text.specs.Bytes.{Text}
 use Rattle.text.specs.Text.{sameText, someOf}

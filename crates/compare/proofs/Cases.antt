@@ -1,6 +1,6 @@
 -- The edges of the rule of covers: one table, and its one theorem by computation.
 use mathlib.Core.Path.{_≡_, refl}
-use mathlib.Core.List.{List, [], _∷_, _++_, map}
+use mathlib.Core.List.{List, [], _∷_, map}
 use mathlib.Core.Bool.{Bool, true, false}
 use Prim.Native.String.{String}
 use Rattle.text.specs.Bytes.{bytes}

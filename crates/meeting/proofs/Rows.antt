@@ -14,7 +14,6 @@ use Rattle.compare.specs.Compare.{covers}
 use Rattle.compare.specs.Compare.{digestOf}
 use Rattle.text.proofs.Scans.{prefix-short, same-length}
 use Rattle.text.proofs.Picks.{by-test}
-use Rattle.book.specs.Command.{key}
 use Rattle.book.specs.Rules.{clash}
 use Rattle.book.specs.State.{texts, meets, Table, Marked}
 

@@ -1,7 +1,7 @@
 -- The rule of adjacent stars by three bytes in a row is the rule by components. Assumes nothing.
 use mathlib.Core.Path.{_≡_, refl, sym, ap, _∙_}
 use mathlib.Core.List.{List, [], _∷_}
-use mathlib.Core.Bool.{Bool, true, false, not, _&&_, _||_, and-assoc}
+use mathlib.Core.Bool.{Bool, true, false, not, _&&_, _||_, and-assoc, and-true, and-false, or-true}
 use Prim.Native.Nat.{ℕ, suc, _+_, _≤_, _<_}
 use native.Mathlib.Numerals.{add-one}
 use native.Mathlib.Omega.{arith}
@@ -10,7 +10,7 @@ use lib.Seq.{drop-cons, getD-drop}
 use lib.Dec.{eqb}
 use lib.Bits.{bitOr, bitAnd, bitXor}
 use borrow.Author.Tests.{eqb-true, eq-eqb, ne-eqb}
-use Rattle.text.specs.Bytes.{Text, bytes, slash, star}
+use Rattle.text.specs.Bytes.{Text, slash, star}
 use Rattle.text.specs.Text.{prefixOf, sameText, eachOf}
 use Rattle.components.specs.Components.{split, onFirst}
 use Rattle.components.specs.Places.{firstOf}
@@ -183,12 +183,27 @@ module _ (s : Text) (i : ℕ) (h : i + 2 < length s) where
   pub apart-pass : (getD s (i + 1) 0 ≡ star → ⊥) → starsApart (drop i s) ≡ starsApart (drop (i + 1) s)
   apart-pass n = apart-next ∙ rw (ne-eqb (getD s (i + 1) 0) star n) refl
 
-  module _ (f : ℕ) (g : eqb f 0 ≡ not (crowded (getD s i 0) (getD s (i + 1) 0) (getD s (i + 2) 0))) where
-    pub apart-fine : f ≡ 0 → starsApart (drop i s) ≡ starsApart (drop (i + 1) s)
-    apart-fine z = apart-next ∙ rw (← g, eq-eqb f 0 z) refl
+  module _ (y : getD s (i + 1) 0 ≡ star) (b : Bool) (g : b ≡ crowded (getD s i 0) star (getD s (i + 2) 0)) where
+    pub apart-fine : b ≡ false → starsApart (drop i s) ≡ starsApart (drop (i + 1) s)
+    apart-fine z = apart-next ∙ rw (y, ← g, z) refl
 
-    pub apart-bad : (f ≡ 0 → ⊥) → starsApart (drop i s) ≡ false
-    apart-bad z = apart-next ∙ rw (← g, ne-eqb f 0 z) refl
+    pub apart-bad : b ≡ true → starsApart (drop i s) ≡ false
+    apart-bad z = apart-next ∙ rw (y, ← g, z) refl
+
+-- whether a star between two bytes is crowded, by the tests of the code
+module _ (x z : ℕ) where
+  pub crowd-before : x ≡ slash → false ≡ crowded x star z
+  crowd-before e = rw e (sym (and-false (eqb z star)))
+
+  pub crowd-behind : z ≡ slash → false ≡ crowded x star z
+  crowd-behind e = rw (e, or-true (eqb x slash)) (sym (and-false (eqb x star || false)))
+
+  module _ (a : x ≡ slash → ⊥) (b : z ≡ slash → ⊥) where
+    pub crowd-star : x ≡ star → true ≡ crowded x star z
+    crowd-star e = rw (ne-eqb z slash b, e) refl
+
+    pub crowd-rest : (x ≡ star → ⊥) → eqb z star ≡ crowded x star z
+    crowd-rest n = rw (ne-eqb x slash a, ne-eqb z slash b, ne-eqb x star n) (sym (and-true (eqb z star)))
 
 -- the flag of three bytes
 pub crowd-flag : (x y z : ℕ) (a b c d e : ℕ) → a ≡ flag (eqb y star) → b ≡ flag (eqb x star) → c ≡ flag (eqb z star) → d ≡ flag (eqb x slash) → e ≡ flag (eqb z slash) → eqb (bitAnd a (bitAnd (bitOr b c) (bitXor 1 (bitOr d e)))) 0 ≡ not (crowded x y z)

@@ -2,7 +2,6 @@
 use mathlib.Core.Path.{_≡_, refl, sym, _∙_}
 use mathlib.Core.List.{[], _∷_}
 use mathlib.Core.Bool.{Bool, true, false, _&&_, and-false, true≢false}
-use Prim.Native.Nat.{ℕ}
 use lib.ListN.{drop}
 use lib.Dec.{eqb}
 use Rattle.text.specs.Bytes.{Text, bytes}

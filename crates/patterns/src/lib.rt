@@ -8,6 +8,7 @@ use text::from;
 ghost use mathlib.Core.Path.{_≡_};
 ghost use mathlib.Core.Bool.{true, not};
 ghost use lib.Dec.{eqb};
+ghost use Rattle.text.specs.Bytes.{star};
 ghost use Rattle.strings.specs.Scan.{tameText};
 ghost use Rattle.patterns.specs.Patterns.{patternText, patternRule};
 ghost use Rattle.patterns.specs.Scan.{crowded, starsApart};
@@ -30,6 +31,22 @@ fn crowd(x: u8, y: u8, z: u8) -> u8
     star_here & ((star_before | star_after) & (1 ^ (slash_before | slash_after)))
 }
 
+// The same of a star between x and z, with as few tests as tell it.
+fn is_crowded(x: u8, z: u8) -> bool
+    ensures { λ r. ⌜ r ≡ crowded x star z ⌝ }
+{
+    if x == SLASH {
+        return false;
+    }
+    if z == SLASH {
+        return false;
+    }
+    if x == STAR {
+        return true;
+    }
+    z == STAR
+}
+
 // Whether two adjacent stars are a whole component wherever they stand in s, star by star: for a short text.
 fn has_few_apart(s: &[u8]) -> bool
     ensures { λ r. ⌜ r ≡ starsApart (now (s .entry)) ⌝ }
@@ -40,7 +57,7 @@ fn has_few_apart(s: &[u8]) -> bool
             i += 1;
             continue;
         }
-        if crowd(s[i], s[i + 1], s[i + 2]) != 0 {
+        if is_crowded(s[i], s[i + 2]) {
             return false;
         }
         i += 1;

@@ -1,13 +1,13 @@
 -- A record's END, a key given before, and what else the record checker looks at. Assumes nothing.
 use mathlib.Core.Path.{_≡_, refl, sym, ap, subst, _∙_}
 use mathlib.Core.List.{List, []}
-use mathlib.Core.Bool.{Bool, true, false, not, _&&_, _||_, cond, true≢false}
+use mathlib.Core.Bool.{Bool, true, false, not, _&&_, _||_, true≢false}
 use Prim.Native.Nat.{ℕ, _+_, _-_, _≤_, _<_}
 use native.Mathlib.Omega.{arith}
 use lib.ListN.{length, getD, drop}
 use lib.Seq.{drop-cons}
 use lib.Dec.{eqb, leb}
-use borrow.Author.Tests.{eq-eqb, ne-eqb, le-leb, lt-leb, eqb-true, eqb-false, leb-false}
+use borrow.Author.Tests.{ne-eqb, le-leb, lt-leb, eqb-true, leb-false}
 use Rattle.text.specs.Bytes.{Text}
 use Rattle.text.specs.Text.{eachOf, someOf}
 use Rattle.strings.specs.Strings.{stringRule}

@@ -9,7 +9,7 @@ use lib.Dec.{eqb}
 use borrow.Author.Tests.{eq-eqb, ne-eqb}
 use Rattle.text.specs.Bytes.{Text}
 use Rattle.compare.specs.Compare.{digestOf}
-use Rattle.book.specs.Command.{key, end, operands}
+use Rattle.book.specs.Command.{key, operands}
 use Rattle.book.specs.Rules.{textOf}
 use Rattle.book.specs.State.{has, pushed, texts, number}
 use Rattle.book.proofs.Steps.{step-moves}

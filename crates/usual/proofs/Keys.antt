@@ -1,7 +1,7 @@
 -- A key that is taken in passing, and one that is not. Assumes nothing.
-use mathlib.Core.Path.{_≡_, refl, sym, ap, subst, _∙_}
+use mathlib.Core.Path.{_≡_, refl, sym, ap, _∙_}
 use mathlib.Core.List.{List}
-use mathlib.Core.Bool.{Bool, true, false, not, _&&_, _||_, cond, true≢false}
+use mathlib.Core.Bool.{Bool, true, false, not, _&&_, cond, true≢false}
 use mathlib.Core.Option.{none}
 use Prim.Native.Nat.{ℕ, _+_, _-_, _≤_, _<_}
 use native.Mathlib.Omega.{arith}
@@ -9,7 +9,7 @@ use lib.ListN.{length, getD, set, drop}
 use lib.Seq.{drop-cons}
 use lib.Dec.{eqb, leb, ltb}
 use types.Run.{OneOf}
-use borrow.Author.Tests.{eq-eqb, ne-eqb, le-leb, lt-leb, lt-ltb, le-ltb, eqb-false, leb-false, ltb-true}
+use borrow.Author.Tests.{ne-eqb, le-leb, lt-leb, lt-ltb, le-ltb, eqb-false, leb-false, ltb-true}
 use Rattle.text.specs.Bytes.{Text}
 use Rattle.text.specs.Text.{someOf}
 use Rattle.text.proofs.Picks.{by-test}
@@ -19,14 +19,14 @@ use Rattle.strings.proofs.Tame.{and-left, and-right}
 use Rattle.book.specs.declared.Cmd.{Cmd}
 use Rattle.book.specs.declared.Cursor.{Cursor}
 use Rattle.book.specs.declared.Step.the-variants.{Command, Broken, End}
-use Rattle.book.specs.Command.{begin, key, widthOf, operands}
+use Rattle.book.specs.Command.{key, widthOf, operands}
 use Rattle.book.specs.Rules.{textOf, ownRule, goodString, givenBefore, faultOf}
 use Rattle.book.specs.Steps.{stepAt}
 use Rattle.book.specs.State.{has, pushed, Slotted, texts, meets}
 use Rattle.book.proofs.Table.{at-keys}
 use Rattle.book.proofs.Steps.{step-command}
-use Rattle.usual.specs.Usual.{keyFine, Passed, Taken, passed, keyed, barred}
-use Rattle.usual.proofs.Passing.{read-op, lone, clear-of, slotted}
+use Rattle.usual.specs.Usual.{keyFine, Taken, keyed, barred}
+use Rattle.usual.proofs.Passing.{lone, clear-of, slotted}
 
 not-left : (a : Bool) → not a ≡ true → a ≡ false
 not-left true e = absurd (true≢false (sym e))
