@@ -109,7 +109,7 @@ pub record Moved (s : Text) (at : ℕ) (c : Cmd) (n : Cursor) : Type 0 where
   pub within : n .at ≤ length s
   pub byte : c .op < 21
 
-operands-op : (w : ℕ) (s : Text) → operands w s .op ≡ getD s 0 0
+pub operands-op : (w : ℕ) (s : Text) → operands w s .op ≡ getD s 0 0
 unfolding operands
 operands-op w s =
     by-test (eqb w 4) (λ e. rw e refl)

@@ -7,7 +7,7 @@ use native.Mathlib.Omega.{arith}
 use lib.ListN.{length, getD, drop}
 use lib.Seq.{drop-cons}
 use lib.Dec.{eqb, leb}
-use borrow.Author.Tests.{ne-eqb, le-leb, lt-leb, eqb-true, leb-false}
+use borrow.Author.Tests.{ne-eqb, le-leb, lt-leb, eqb-true, leb-false, not-true}
 use Rattle.text.specs.Bytes.{Text}
 use Rattle.text.specs.Text.{eachOf, someOf}
 use Rattle.strings.specs.Strings.{stringRule}
@@ -30,10 +30,6 @@ use Rattle.usual.proofs.Passing.{clear-still}
 use Rattle.usual.proofs.Keys.{Standing, standing, was-given}
 use Rattle.record_checker.proofs.Passes.{counted}
 
-not-left : (a : Bool) → not a ≡ true → a ≡ false
-not-left true e = absurd (true≢false (sym e))
-not-left false e = refl
-
 -- whether a record ends, by the tests of the code
 module _ (part : Text) (at : ℕ) (ns : List ℕ) where
   pub ended-none : length part ≤ at → false ≡ (not (leb (length part) at) && (eqb (getD part at 0) end && (not (eqb (has ns begin) 0) && eqb (has ns end) 0)))
@@ -55,7 +51,7 @@ module _ (part : Text) (base : ℕ) (text : Text) (ps pl : List ℕ) (n : ℕ) {
   -- END, in a record that has begun
   module _ (yes : r ≡ true) where
     inside : at < length part
-    inside = leb-false (length part) at (not-left _ (and-left (not (leb (length part) at)) _ (sym rv ∙ yes)))
+    inside = leb-false (length part) at (not-true _ (and-left (not (leb (length part) at)) _ (sym rv ∙ yes)))
 
     byte : getD part at 0 ≡ end
     byte = eqb-true _ _ (and-left (eqb (getD part at 0) end) _ (and-right (not (leb (length part) at)) _ (sym rv ∙ yes)))

@@ -9,7 +9,7 @@ use lib.ListN.{length, getD, set, drop}
 use lib.Seq.{drop-cons}
 use lib.Dec.{eqb, leb, ltb}
 use types.Run.{OneOf}
-use borrow.Author.Tests.{ne-eqb, le-leb, lt-leb, lt-ltb, le-ltb, eqb-false, leb-false, ltb-true}
+use borrow.Author.Tests.{ne-eqb, le-leb, lt-leb, lt-ltb, le-ltb, eqb-false, leb-false, ltb-true, not-true}
 use Rattle.text.specs.Bytes.{Text}
 use Rattle.text.specs.Text.{someOf}
 use Rattle.text.proofs.Picks.{by-test}
@@ -24,13 +24,9 @@ use Rattle.book.specs.Rules.{textOf, ownRule, goodString, givenBefore, faultOf}
 use Rattle.book.specs.Steps.{stepAt}
 use Rattle.book.specs.State.{has, pushed, Slotted, texts, meets}
 use Rattle.book.proofs.Table.{at-keys}
-use Rattle.book.proofs.Steps.{step-command}
+use Rattle.book.proofs.Steps.{step-command, operands-op}
 use Rattle.usual.specs.Usual.{keyFine, Taken, keyed, barred}
 use Rattle.usual.proofs.Passing.{lone, clear-of, slotted}
-
-not-left : (a : Bool) → not a ≡ true → a ≡ false
-not-left true e = absurd (true≢false (sym e))
-not-left false e = refl
 
 -- a key's string has no rule of its own
 plain : (s : Text) → ownRule key s ≡ true
@@ -133,7 +129,7 @@ module _ (part : Text) (at : ℕ) (text : Text) (ns ks kl : List ℕ) where
     rest₃ = and-right (ltb (has ns key) 32) _ rest₂
 
     pub key-long : 4 < length part - at
-    key-long = leb-false (length part - at) 4 (not-left _ (and-left (not (leb (length part - at) 4)) _ told))
+    key-long = leb-false (length part - at) 4 (not-true _ (and-left (not (leb (length part - at) 4)) _ told))
 
     pub key-op : key ≡ operands 4 (drop at part) .op
     unfolding operands
@@ -156,10 +152,10 @@ module _ (part : Text) (at : ℕ) (text : Text) (ns ks kl : List ℕ) where
           (λ e. absurd (omega (arith, e))) refl (and-left (not (eqb (has ns 10) 0)) _ rest) key-room (and-left (goodString text (operands 4 (drop at part))) _ rest₃) n
           (texts text ks kl (has ns key)) paths
           (ap (λ (o : ℕ). givenBefore (texts text ks kl (has ns key)) paths o (textOf text (operands 4 (drop at part)))) (sym key-op)
-          ∙ new-key (texts text ks kl (has ns key)) paths (textOf text (operands 4 (drop at part))) (not-left _ (and-right (goodString text (operands 4 (drop at part))) _ rest₃)))
+          ∙ new-key (texts text ks kl (has ns key)) paths (textOf text (operands 4 (drop at part))) (not-true _ (and-right (goodString text (operands 4 (drop at part))) _ rest₃)))
 
 pub lone-no-key : (op : ℕ) → OneOf lone op → op ≡ key → ⊥
-lone-no-key op h = eqb-false op key (not-left _ (at-keys (λ i. not (eqb i key)) lone tt op h))
+lone-no-key op h = eqb-false op key (not-true _ (at-keys (λ i. not (eqb i key)) lone tt op h))
 
 -- the command that stands at the offset
 module _ (part : Text) (at : ℕ) (c : Cmd) (nx : Cursor) (is : Command c nx ≡ stepAt part at) where
@@ -168,12 +164,6 @@ module _ (part : Text) (at : ℕ) (c : Cmd) (nx : Cursor) (is : Command c nx ≡
     pub long : widthOf (getD part at 0) < length part - at
     pub reads : c ≡ operands (widthOf (getD part at 0)) (drop at part)
     pub byte : c .op ≡ getD part at 0
-
-  operands-op : (w : ℕ) (s : Text) → operands w s .op ≡ getD s 0 0
-  unfolding operands
-  operands-op w s =
-      by-test (eqb w 4) (λ e. rw e refl)
-      (λ e. by-test (eqb w 5) (λ f. rw (e, f) refl) (λ f. by-test (eqb w 2) (λ g. rw (e, f, g) refl) (λ g. rw (e, f, g) refl)))
 
   stands : at < length part → widthOf (getD part at 0) < length part - at → Command c nx ≡ Command (operands (widthOf (getD part at 0)) (drop at part)) (record { at = at + widthOf (getD part at 0) + 1 }) → Standing
   stands h l e =
@@ -209,5 +199,5 @@ module _ (part : Text) (at : ℕ) (c : Cmd) (nx : Cursor) (is : Command c nx ≡
         (λ y. y)
         (λ y.
         let q : c ≡ operands 4 (drop at part) = standing .reads ∙ ap (λ (w : ℕ). operands w (drop at part)) wide-key in
-        let z : true ≡ false = rw (lt-leb (length part - at) 4 (omega (arith, standing .long, wide-key)), not-left (eqb (has ns 10) 0) o, lt-ltb (has ns key) 32 r, ← q, g, y) at f in
+        let z : true ≡ false = rw (lt-leb (length part - at) 4 (omega (arith, standing .long, wide-key)), not-true (eqb (has ns 10) 0) o, lt-ltb (has ns key) 32 r, ← q, g, y) at f in
         absurd (true≢false z))

@@ -7,7 +7,7 @@ use native.Mathlib.Omega.{arith}
 use lib.ListN.{getD}
 use lib.Dec.{T, eqb, leb, ltb}
 use types.Run.{OneOf}
-use borrow.Author.Tests.{ne-eqb, eqb-true, eqb-false, leb-true, ltb-true}
+use borrow.Author.Tests.{ne-eqb, eqb-true, eqb-false, leb-true, ltb-true, not-true}
 use Rattle.text.proofs.Picks.{by-test}
 use Rattle.strings.proofs.Tame.{and-left, and-right}
 use Rattle.book.specs.Command.{begin, key, target, widths, widthOf}
@@ -21,10 +21,6 @@ use Rattle.usual.specs.Usual.{mostOf, openNow, mostNow}
 unfoldable armed : (ℕ → ℕ) → ℕ → ℕ → Bool
 armed f m k =
     eqb (widthOf k) 4 && (not (eqb k begin || eqb k key) && (not (eqb k target) && (eqb (getD openers k 0) (f k) && (not (eqb (f k) 0) && eqb (mostOf k) m))))
-
-not-left : (a : Bool) → not a ≡ true → a ≡ false
-not-left true e = absurd (true≢false (sym e))
-not-left false e = refl
 
 module _ (ns : List ℕ) (o m k : ℕ) (q : k ≡ o) where
   pub behind-none : getD ns k 0 ≡ 0 → 0 ≡ cond (eqb (has ns o) 0) 0 m
@@ -46,7 +42,7 @@ module _ (ns : List ℕ) (last : ℕ) where
       let n = and-left (not (eqb op begin || eqb op key)) _ a₂ in
       let t = and-left (not (eqb op target)) _ a₃ in
       let q = eqb-true (getD openers op 0) (f op) (and-left (eqb (getD openers op 0) (f op)) _ a₄) in
-      let z = not-left (eqb (f op) 0) (and-left (not (eqb (f op) 0)) _ a₅) in
+      let z = not-true (eqb (f op) 0) (and-left (not (eqb (f op) 0)) _ a₅) in
       let l = eqb-true (mostOf op) m (and-right (not (eqb (f op) 0)) _ a₅) in
       e ∙ by-test (eqb (has ns (f op)) 0) (λ y. rw (w, n, t, q, z, y) refl) (λ y. rw (w, n, t, q, z, y, l) refl)
 

@@ -1,7 +1,7 @@
 -- A command that fits is usual, and so is one without operands that comes for the first time. Assumes nothing.
 use mathlib.Core.Path.{_≡_, refl, sym, ap, subst, _∙_}
 use mathlib.Core.List.{List, [], _∷_}
-use mathlib.Core.Bool.{Bool, true, false, not, _&&_, _||_, cond, true≢false, or-true}
+use mathlib.Core.Bool.{Bool, true, false, not, _&&_, _||_, cond, or-true}
 use mathlib.Core.Option.{none}
 use Prim.Native.Nat.{ℕ, _+_, _-_, _≤_, _<_}
 use native.Mathlib.Omega.{arith}
@@ -9,7 +9,7 @@ use lib.ListN.{length, getD, set, drop, length-set}
 use lib.Seq.{drop-cons, getD-set-same, getD-set-other}
 use lib.Dec.{T, eqb, leb, ltb}
 use types.Run.{OneOf}
-use borrow.Author.Tests.{eq-eqb, ne-eqb, le-leb, lt-leb, eqb-true, eqb-false, leb-false, ltb-true, lt-ltb}
+use borrow.Author.Tests.{eq-eqb, ne-eqb, le-leb, lt-leb, eqb-true, eqb-false, leb-false, ltb-true, lt-ltb, not-true}
 use Rattle.text.specs.Bytes.{Text}
 use Rattle.text.specs.Text.{eachOf}
 use Rattle.text.proofs.Picks.{by-test}
@@ -27,12 +27,8 @@ use Rattle.faults.proofs.Keeps.{order-on, many-once, many-on}
 use Rattle.usual.specs.Usual.{fitting, mostOf, Usual, Passed, still, more}
 use Rattle.usual.proofs.Most.{Now}
 
-not-left : (a : Bool) → not a ≡ true → a ≡ false
-not-left true e = absurd (true≢false (sym e))
-not-left false e = refl
-
 no-eqb : (a b : ℕ) → not (eqb a b) ≡ true → a ≡ b → ⊥
-no-eqb a b e = eqb-false a b (not-left (eqb a b) e)
+no-eqb a b e = eqb-false a b (not-true (eqb a b) e)
 
 -- whether a command fits, by the tests of the code
 module _ (part : Text) (at : ℕ) (text : Text) (op : ℕ) where
@@ -206,7 +202,7 @@ module _ (part text : Text) (ns₀ : List ℕ) (last at : ℕ) where
         fit = sym fb ∙ yes
 
         pub long : 4 < length part - to
-        long = leb-false (length part - to) 4 (not-left _ (and-left (not (leb (length part - to) 4)) _ fit))
+        long = leb-false (length part - to) 4 (not-true _ (and-left (not (leb (length part - to) 4)) _ fit))
 
         byte : getD part to 0 ≡ op
         byte = eqb-true _ _ (and-left (eqb (getD part to 0) op) _ (and-right (not (leb (length part - to) 4)) _ fit))
@@ -288,7 +284,7 @@ module _ (part text : Text) (ns₀ : List ℕ) (last at : ℕ) where
           (λ e. absurd (omega (arith, e))) (omega (arith, h)) refl)
 
       begun-here : eqb (has ns₀ begin) 0 ≡ false
-      begun-here = not-left _ (and-left _ (eqb (has ns₀ op) 0) (sym bv ∙ yes))
+      begun-here = not-true _ (and-left _ (eqb (has ns₀ op) 0) (sym bv ∙ yes))
 
       unlocked-here : (eqb (getD openers op 0) 0 || not (eqb (has ns₀ (getD openers op 0)) 0)) ≡ true
       unlocked-here = rw (eqb-true (getD openers op 0) begin (alone (λ i. eqb (getD openers i 0) begin) tt), begun-here) refl
