@@ -25,12 +25,12 @@ fitting part at text op = not (leb (length part - at) 4) && (eqb (getD part at 0
 abbrev pub mostOf : ℕ → ℕ
 mostOf op = cond (eqb (getD limits op 0) 0) 1 (getD limits op 0)
 
--- what the command must come after is there
+-- what a command must come after is there: its opener, and a target's key with only targets between
 abbrev pub openNow : List ℕ → ℕ → ℕ → Bool
 openNow counts last op =
     (not (eqb op target) || (eqb last key || eqb last target)) && (eqb (getD openers op 0) 0 || not (eqb (has counts (getD openers op 0)) 0))
 
--- The same where a command with a string, neither BEGIN nor a key, may come now; else none.
+-- how many there may be now of a command with a string, neither BEGIN nor a key: none where it may not come
 unfoldable pub mostNow : List ℕ → ℕ → ℕ → ℕ
 mostNow counts last op = cond (eqb (widthOf op) 4 && (not (eqb op begin || eqb op key) && openNow counts last op)) (mostOf op) 0
 
