@@ -3,6 +3,8 @@
 
 usage: tools/respell.py            at the top of the repository, once, after the kit's port.py
 
+A name that a file imports from a library stays in that file.
+
 A name is turned where it is declared in specs/ or in a lemma file of proofs/ and is neither a type nor a module: `findLast` to `find_last`, `find-here` to
 `find_here`. It turns whole words alone, in .antt files, in the contracts of .rt files and in must-fail edits. In the proof of a function a word right behind a dot is a name that the check makes, so
 it is turned only where it is a field. Functions of src/, exported names and strings keep theirs. A name that would fall together with another keeps apart by `_lem`. It prints each name that it turned.
@@ -14,6 +16,7 @@ import re
 DECLARED = re.compile(r"^(\s*)(?:(?:pub|abbrev|unfoldable)\s+)*([^\s(){}.;,@\"«»:=]+)\s*:\s")
 RECORD = re.compile(r"^(\s*)(?:pub\s+)?record\s+\S+")
 WORD = re.compile(r"[^\s(){}.;,@\"«»\[\]]+")
+OF_LIBRARY = re.compile(r"\buse\s+(?:Rattle\.(?:std|core|io|os|libc)\b|(?!Rattle\.)\w)[^\s{;]*\{([^}]*)\}")
 CLAUSE = re.compile(r"^\s*(requires|ensures|ghost)\b")
 
 
@@ -78,9 +81,11 @@ def table(names):
 
 
 def turn(text, turned, behind_a_dot=None):
+    stays = set(re.findall(r"[^\s,]+", " ".join(OF_LIBRARY.findall(text))))
+
     def one(m):
         word = m.group(0)
-        if word not in turned:
+        if word not in turned or word in stays:
             return word
         if behind_a_dot is not None and m.start() and text[m.start() - 1] == "." and word not in behind_a_dot:
             return word
@@ -92,6 +97,8 @@ def turn(text, turned, behind_a_dot=None):
 def turn_rust(text, turned):
     """The clauses and the `ghost use` lines alone."""
     out, ghost = [], False
+    stays = set(re.findall(r"[^\s,]+", " ".join(OF_LIBRARY.findall(text))))
+    turned = {name: new for name, new in turned.items() if name not in stays}
     for line in text.split("\n"):
         ghost = ghost or bool(re.match(r"\s*ghost\s+use\b", line))
         out.append(turn(line, turned) if ghost or CLAUSE.match(line) else line)

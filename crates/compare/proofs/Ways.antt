@@ -1,7 +1,7 @@
 -- The loops that compare two strings, and the ways out of covers. Assumes nothing.
 use mathlib.Core.Path.{◌≡◌, refl, sym, ◌∙◌}
 use mathlib.Core.List.{[], ◌∷◌, ◌++◌}
-use mathlib.Core.Bool.{Bool, false, ◌&&◌, and-true, and_false, and_assoc}
+use mathlib.Core.Bool.{Bool, false, ◌&&◌, and-true, and-false, and_assoc}
 use Prim.Native.Nat.{ℕ, ◌+◌, ◌-◌, ◌*◌, ◌%◌, ◌≤◌, ◌<◌}
 use native.Mathlib.Numerals.{add-one}
 use native.Mathlib.Omega.{arith}
@@ -70,7 +70,7 @@ module _ (p q : Text) where
 
   pub over_other : length p < length q → (get_or q (length p) 0 ≡ slash → ⊥) → false ≡ covers p q
   unfolding covers
-  over_other h n = sym (join_more p q h ∙ rw (ne_eqb (get_or q (length p) 0) slash n) (and_false (prefix_of p q)))
+  over_other h n = sym (join_more p q h ∙ rw (ne_eqb (get_or q (length p) 0) slash n) (and-false (prefix_of p q)))
 
   pub over_under : length p < length q → get_or q (length p) 0 ≡ slash → (r : Bool) → r ≡ prefix_of p q → r ≡ covers p q
   unfolding covers

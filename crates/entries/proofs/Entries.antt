@@ -1,6 +1,6 @@
 -- The extends entries of a record, one after the other. Assumes nothing.
 use mathlib.Core.Path.{◌≡◌, refl, sym, ap, subst, ◌∙◌}
-use mathlib.Core.List.{List, [], ◌∷◌, ◌++◌, map, append_assoc, append-nil, map_append}
+use mathlib.Core.List.{List, [], ◌∷◌, ◌++◌, map, append_assoc, append-nil, map-append}
 use mathlib.Core.Bool.{Bool, true, false, ◌&&◌, ◌||◌, true≢false}
 use mathlib.Core.Option.{some, none}
 use Prim.Native.Nat.{ℕ, suc, ◌+◌, ◌-◌, ◌<◌, ◌≤◌}
@@ -258,7 +258,7 @@ module _ (commands text : Text) (paths : List Text) (n rec : ℕ) (dir : Text) w
             ∙ ap (λ (x : Entry). coded n codes k ++ (x ∷ map (entry_at paths dir) (strings text extends (record_at commands next)))) (sym h)
             ∙ sym (append_assoc (coded n codes k) (entry_of n v ∷ []) (map (entry_at paths dir) (strings text extends (record_at commands next))))
             ∙ ap (◌++ map (entry_at paths dir) (strings text extends (record_at commands next)))
-            (sym (ap (λ (j : ℕ). coded n (set codes k v) j) (add-one k) ∙ ap (map (entry_of n)) (take-suc-set codes k v coding_room) ∙ map_append (entry_of n) (take k codes) (v ∷ [])));
+            (sym (ap (λ (j : ℕ). coded n (set codes k v) j) (add-one k) ∙ ap (map (entry_of n)) (take-suc-set codes k v coding_room) ∙ map-append (entry_of n) (take k codes) (v ∷ [])));
         few = omega (arith, p.few, ap length (only_got (is extends) commands at c next told));
         good = all_tail c (record_at commands next) ahead;
         long = length-set codes k v ∙ p.long;

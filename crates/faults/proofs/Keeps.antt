@@ -1,7 +1,7 @@
 -- The rules of order over the state that the code keeps, and that it says what the definition reads off the commands before. Assumes nothing.
 use mathlib.Core.Path.{◌≡◌, refl, sym, ap, subst, ◌∙◌}
 use mathlib.Core.List.{List, [], ◌∷◌}
-use mathlib.Core.Bool.{Bool, true, false, not, ◌&&◌, ◌||◌, cond, true≢false, or_true, or-false}
+use mathlib.Core.Bool.{Bool, true, false, not, ◌&&◌, ◌||◌, cond, true≢false, or-true, or-false}
 use Prim.Native.Nat.{ℕ, zero, suc, ◌+◌, ◌-◌, ◌≤◌, ◌<◌}
 use native.Mathlib.Omega.{arith}
 use native.Mathlib.Numerals.{add-one}
@@ -97,7 +97,7 @@ module _ (ns : List ℕ) (op w o : ℕ) (a : w ≡ o) (b : o ≡ get_or openers 
   opened_some z = rw (← b, ← a, ne_eqb w 0 z) refl
 
 pub fresh_none : (op n : ℕ) → n ≡ 0 → true ≡ (not (eqb (get_or limits op 0) 0) || eqb n 0)
-fresh_none op n z = rw (eq-eqb n 0 z) (sym (or_true (not (eqb (get_or limits op 0) 0))))
+fresh_none op n z = rw (eq-eqb n 0 z) (sym (or-true (not (eqb (get_or limits op 0) 0))))
 
 pub fresh_some : (op n most : ℕ) → (n ≡ 0 → ⊥) → most ≡ get_or limits op 0 → not (eqb most 0) ≡ (not (eqb (get_or limits op 0) 0) || eqb n 0)
 fresh_some op n most z e = rw (ne_eqb n 0 z, ← e) (sym (or-false (not (eqb most 0))))

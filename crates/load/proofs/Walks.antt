@@ -1,6 +1,6 @@
 -- The load and the walk over the parents, branch by branch. Assumes nothing.
 use mathlib.Core.Path.{◌≡◌, refl, sym, ap, ap₂, subst, ◌∙◌, fun_ext}
-use mathlib.Core.List.{List, [], ◌∷◌, map, reverse, reverse-append, map_append}
+use mathlib.Core.List.{List, [], ◌∷◌, map, reverse, reverse-append, map-append}
 use mathlib.Core.Bool.{Bool, true, false, cond, not, ◌||◌, ◌&&◌}
 use mathlib.Core.Option.{Option, some, none}
 use Prim.Native.Nat.{ℕ, zero, suc, ◌+◌, ◌-◌, ◌*◌, ◌<◌, ◌≤◌}
@@ -132,7 +132,7 @@ module _ (rs : List Parsed) (on : List Bool) (c : ℕ) (row table : List ℕ) wh
 -- the last of the first k codes is the first that the walk meets
 pub last_first : (n : ℕ) (codes : List ℕ) (j : ℕ) → j < length codes → reverse (coded n codes (suc j)) ≡ entry_of n (get_or codes j 0) ∷ reverse (coded n codes j)
 last_first n codes j h =
-    ap reverse (ap (map (entry_of n)) (take-suc codes j 0 h) ∙ map_append (entry_of n) (take j codes) (get_or codes j 0 ∷ []))
+    ap reverse (ap (map (entry_of n)) (take-suc codes j 0 h) ∙ map-append (entry_of n) (take j codes) (get_or codes j 0 ∷ []))
     ∙ reverse-append (coded n codes j) (entry_of n (get_or codes j 0) ∷ [])
 
 -- A parent, branch by branch: v is the code that is read

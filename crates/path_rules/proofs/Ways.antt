@@ -1,7 +1,7 @@
 -- The ways out of the rules: a law for each. r, r₁, r₂ are the answers of the tests made so far. Assumes nothing.
 use mathlib.Core.Path.{◌≡◌, refl, sym, ◌∙◌}
 use mathlib.Core.List.{[], ◌∷◌}
-use mathlib.Core.Bool.{Bool, true, false, not, ◌&&◌, ◌||◌, and-true, and_false, and_comm}
+use mathlib.Core.Bool.{Bool, true, false, not, ◌&&◌, ◌||◌, and-true, and-false, and_comm}
 use Prim.Native.Nat.{ℕ, ◌≤◌, ◌<◌}
 use native.Mathlib.Omega.{arith}
 use lib.ListN.{length}
@@ -67,17 +67,17 @@ asked_bytes s = each_same (none_of (bytes "?##")) (none_of (bytes "?#")) s (λ x
 
 pub record_short : (s : Text) → length s ≤ 1 → false ≡ record_path s
 unfolding record_path
-record_short s h = sym (rw (le-leb (length s) 1 h) (and_false (normal s)))
+record_short s h = sym (rw (le-leb (length s) 1 h) (and-false (normal s)))
 
 pub record_bracket : (s : Text) (r : Bool) → r ≡ each_of (none_of (bytes "{}[]!")) s → r ≡ false → false ≡ record_path s
 unfolding record_path
-record_bracket s r e f = sym (rw (record_bytes s, ← e, f, and_false (not (leb (length s) 1))) (and_false (normal s)))
+record_bracket s r e f = sym (rw (record_bytes s, ← e, f, and-false (not (leb (length s) 1))) (and-false (normal s)))
 
 -- s has no bracket
 module _ (s : Text) (bare : each_of (none_of (bytes "{}[]!")) s ≡ true) (h : 1 < length s) (r₁ : Bool) (e₁ : r₁ ≡ each_of (none_of (bytes "*?#")) s) where
   pub record_mark : r₁ ≡ false → false ≡ record_path s
   unfolding record_path
-  record_mark f₁ = sym (rw (lt-leb (length s) 1 h, record_bytes s, bare, ← e₁, f₁) (and_false (normal s)))
+  record_mark f₁ = sym (rw (lt-leb (length s) 1 h, record_bytes s, bare, ← e₁, f₁) (and-false (normal s)))
 
   pub record_on : r₁ ≡ true → (r : Bool) → r ≡ normal s → r ≡ record_path s
   unfolding record_path
@@ -104,7 +104,7 @@ module _ (s : Text) (r₁ : Bool) (e₁ : r₁ ≡ string_rule s) where
   module _ (t₁ : r₁ ≡ true) (r₂ : Bool) (e₂ : r₂ ≡ each_of (none_of (bytes "?##")) s) where
     pub asked_mark : r₂ ≡ false → false ≡ asked_path s
     unfolding asked_path
-    asked_mark f₂ = sym (rw (← e₁, t₁, ← asked_bytes s, ← e₂, f₂) (and_false (normal s)))
+    asked_mark f₂ = sym (rw (← e₁, t₁, ← asked_bytes s, ← e₂, f₂) (and-false (normal s)))
 
     pub asked_on : r₂ ≡ true → (r : Bool) → r ≡ normal s → r ≡ asked_path s
     unfolding asked_path

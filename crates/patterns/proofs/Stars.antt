@@ -1,7 +1,7 @@
 -- The rule of adjacent stars by three bytes in a row is the rule by components. Assumes nothing.
 use mathlib.Core.Path.{◌≡◌, refl, sym, ap, ◌∙◌}
 use mathlib.Core.List.{List, [], ◌∷◌}
-use mathlib.Core.Bool.{Bool, true, false, not, ◌&&◌, ◌||◌, and_assoc, and-true, and_false, or_true}
+use mathlib.Core.Bool.{Bool, true, false, not, ◌&&◌, ◌||◌, and_assoc, and-true, and-false, or-true}
 use Prim.Native.Nat.{ℕ, suc, ◌+◌, ◌≤◌, ◌<◌}
 use native.Mathlib.Numerals.{add-one}
 use native.Mathlib.Omega.{arith}
@@ -193,10 +193,10 @@ module _ (s : Text) (i : ℕ) (h : i + 2 < length s) where
 -- whether a star between two bytes is crowded, by the tests of the code
 module _ (x z : ℕ) where
   pub crowd_before : x ≡ slash → false ≡ crowded x star z
-  crowd_before e = rw e (sym (and_false (eqb z star)))
+  crowd_before e = rw e (sym (and-false (eqb z star)))
 
   pub crowd_behind : z ≡ slash → false ≡ crowded x star z
-  crowd_behind e = rw (e, or_true (eqb x slash)) (sym (and_false (eqb x star || false)))
+  crowd_behind e = rw (e, or-true (eqb x slash)) (sym (and-false (eqb x star || false)))
 
   module _ (a : x ≡ slash → ⊥) (b : z ≡ slash → ⊥) where
     pub crowd_star : x ≡ star → true ≡ crowded x star z

@@ -1,7 +1,7 @@
 -- The ways out of the rules: a law for each. r, r₁, r₂ are the answers of the tests made so far. Assumes nothing.
 use mathlib.Core.Path.{◌≡◌, refl, sym, ◌∙◌}
 use mathlib.Core.List.{[], ◌∷◌}
-use mathlib.Core.Bool.{Bool, true, false, ◌&&◌, and_false, true≢false}
+use mathlib.Core.Bool.{Bool, true, false, ◌&&◌, and-false, true≢false}
 use lib.ListN.{drop}
 use lib.Dec.{eqb}
 use Rattle.text.specs.Bytes.{Text, bytes}
@@ -39,14 +39,14 @@ module _ (s : Text) (r₁ : Bool) (e₁ : r₁ ≡ prefix_of config_dir s) where
 config_none : (s : Text) → each_of (none_of (bytes "{}[]!")) s ≡ true → prefix_of config_dir s ≡ false
 unfolding each_of prefix_of some_of
 config_none [] e = refl
-config_none (x ∷ []) e = and_false (eqb x 0x24)
+config_none (x ∷ []) e = and-false (eqb x 0x24)
 config_none (x ∷ y ∷ s) e =
     by_test (eqb y 0x7B)
     (λ t.
     let z : none_of (bytes "{}[]!") y && each_of (none_of (bytes "{}[]!")) s ≡ true = and_right (none_of (bytes "{}[]!") x) _ e in
     let w : false ≡ true = rw t at z in
     absurd (true≢false (sym w)))
-    (λ f. rw f (and_false (eqb x 0x24)))
+    (λ f. rw f (and-false (eqb x 0x24)))
 
 pub tame_pattern : (s : Text) → tame_text s ≡ true → (r : Bool) → r ≡ stars_apart s → r ≡ pattern_rule s
 tame_pattern s e r d = pattern_whole s (prefix_of config_dir s) refl (config_none s (tame_bare s e)) r (pattern_stars s (each_of (none_of (bytes "{}[]!")) s) refl (tame_bare s e) r d)

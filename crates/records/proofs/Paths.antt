@@ -1,7 +1,7 @@
 -- The records by their paths: a turn of the loops over the table, and each way out. Assumes nothing.
 use mathlib.Core.Path.{◌≡◌, refl, sym, ap, ap₂, ◌∙◌}
 use mathlib.Core.List.{List, [], ◌∷◌, ◌++◌, map, append_assoc, append-nil}
-use mathlib.Core.Bool.{Bool, true, false, ◌&&◌, cond, and_false, and-true, true≢false}
+use mathlib.Core.Bool.{Bool, true, false, ◌&&◌, cond, and-false, and-true, true≢false}
 use mathlib.Core.Option
 use mathlib.Core.Option.{Option, some, none}
 use Prim.Native.Nat.{ℕ, zero, suc, ◌+◌, ◌-◌, ◌≤◌, ◌<◌}
@@ -88,7 +88,7 @@ module _ (p tail q : Text) (apart : Bool) (m : ℕ) (e : m ≡ length (slash_if 
           ∙ ap (λ (x : Bool). prefix_of (p ++ (slash_if apart ++ [])) q && x) (sym f)
 
       pub joined_other : b ≡ false → false ≡ same_text (p ++ (slash_if apart ++ tail)) q
-      joined_other g = sym (parts ∙ ap (λ (x : Bool). prefix_of (p ++ (slash_if apart ++ [])) q && x) g ∙ and_false (prefix_of (p ++ (slash_if apart ++ [])) q))
+      joined_other g = sym (parts ∙ ap (λ (x : Bool). prefix_of (p ++ (slash_if apart ++ [])) q && x) g ∙ and-false (prefix_of (p ++ (slash_if apart ++ [])) q))
 
       pub joined_inside : b ≡ true → (r : Bool) → r ≡ prefix_of (p ++ (slash_if apart ++ [])) q → r ≡ same_text (p ++ (slash_if apart ++ tail)) q
       joined_inside t r i = i ∙ sym (parts ∙ ap (λ (x : Bool). prefix_of (p ++ (slash_if apart ++ [])) q && x) t ∙ and-true (prefix_of (p ++ (slash_if apart ++ [])) q))

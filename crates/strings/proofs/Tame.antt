@@ -1,7 +1,7 @@
 -- A tame text, and the rules of the strings of one. Assumes nothing.
 use mathlib.Core.Path.{◌≡◌, refl, sym, ap, ap₂, ◌∙◌}
 use mathlib.Core.List.{[], ◌∷◌}
-use mathlib.Core.Bool.{Bool, true, false, not, cond, ◌&&◌, and-true, and_false, true≢false}
+use mathlib.Core.Bool.{Bool, true, false, not, cond, ◌&&◌, and-true, and-false, true≢false}
 use Prim.Native.Nat.{ℕ, zero, suc, ◌≤◌, ◌<◌}
 use native.Mathlib.Omega.{arith}
 use lib.ListN.{length, take, drop}
@@ -130,7 +130,7 @@ wild_flags x f g a b =
 
     ranges : (t : Bool) → leb x 0x7E ≡ t → within 0x22 0x7E x && one_range x ≡ tame_byte x
     ranges true t = rw (ranges_same x (omega (arith, leb-true x 0x7E t))) refl
-    ranges false t = rw (t, and_false (leb 0x22 x)) refl
+    ranges false t = rw (t, and-false (leb 0x22 x)) refl
 
 pub tame_told : (s : Text) (r : Bool) → r ≡ each_of tame_byte s → r ≡ tame_text s
 unfolding tame_text

@@ -1,7 +1,7 @@
 -- Laws of the tests and searches: what one step of a scan does to them. Assumes nothing.
 use mathlib.Core.Path.{◌≡◌, refl, ap, sym, subst, ◌∙◌}
 use mathlib.Core.List.{[], ◌∷◌, ◌++◌}
-use mathlib.Core.Bool.{Bool, true, false, and_false, cond}
+use mathlib.Core.Bool.{Bool, true, false, and-false, cond}
 use Prim.Native.Nat.{ℕ, zero, suc, ◌+◌, ◌-◌, ◌≤◌, ◌<◌}
 use native.Mathlib.Numerals.{add-one}
 use native.Mathlib.Nat.{add-zero, add-suc, suc-add}
@@ -30,7 +30,7 @@ unfolding prefix_of
 prefix_differs [] s i h e = let z : ⊥ = omega (arith, h) in absurd z
 prefix_differs (x ∷ p) [] i h e = refl
 prefix_differs (x ∷ p) (y ∷ s) zero h e = rw (ne_eqb y x e) refl
-prefix_differs (x ∷ p) (y ∷ s) (suc i) h e = rw (prefix_differs p s i (omega (arith, h)) e) (and_false (eqb y x))
+prefix_differs (x ∷ p) (y ∷ s) (suc i) h e = rw (prefix_differs p s i (omega (arith, h)) e) (and-false (eqb y x))
 
 -- one byte more, from the end on
 pub prefix_back : (p s : Text) (k i : ℕ) → i + 1 ≡ k → k ≤ length p → length p ≤ length s → get_or s i 0 ≡ get_or p i 0 → prefix_of (drop k p) (drop k s) ≡ true → prefix_of (drop i p) (drop i s) ≡ true
@@ -43,7 +43,7 @@ pub prefix_short : (p s : Text) → length s < length p → false ≡ prefix_of 
 unfolding prefix_of
 prefix_short [] s h = let z : ⊥ = omega arith in absurd z
 prefix_short (x ∷ p) [] h = refl
-prefix_short (x ∷ p) (y ∷ s) h = sym (rw (← prefix_short p s (omega arith)) (and_false (eqb y x)))
+prefix_short (x ∷ p) (y ∷ s) h = sym (rw (← prefix_short p s (omega arith)) (and-false (eqb y x)))
 
 -- Equality
 
@@ -59,7 +59,7 @@ unfolding same_text
 same_length [] [] e = absurd (e refl)
 same_length [] (y ∷ b) e = refl
 same_length (x ∷ a) [] e = refl
-same_length (x ∷ a) (y ∷ b) e = rw (same_length a b (omega arith)) (and_false (eqb x y))
+same_length (x ∷ a) (y ∷ b) e = rw (same_length a b (omega arith)) (and-false (eqb x y))
 
 -- The first place of a byte
 

@@ -1,7 +1,7 @@
 -- A command that fits is usual, and so is one without operands that comes for the first time. Assumes nothing.
 use mathlib.Core.Path.{◌≡◌, refl, sym, ap, ◌∙◌}
 use mathlib.Core.List.{List, [], ◌∷◌}
-use mathlib.Core.Bool.{Bool, true, false, not, ◌&&◌, ◌||◌, cond, or_true}
+use mathlib.Core.Bool.{Bool, true, false, not, ◌&&◌, ◌||◌, cond, or-true}
 use mathlib.Core.Option.{none}
 use Prim.Native.Nat.{ℕ, ◌+◌, ◌-◌, ◌≤◌, ◌<◌}
 use native.Mathlib.Omega.{arith}
@@ -238,7 +238,7 @@ module _ (part text : Text) (ns₀ : List ℕ) (last at : ℕ) where
                 latest = op;
                 passed = recast part text ns₀ last at counted (sym op_is) (omega arith) (more s.passed reads taken);
                 said = rw (ne_eqb (to + 5) at (λ e. absurd (omega (arith, e, s.forth)))) refl;
-                follow = by_test (eqb op target) (λ e. rw e (or_true (eqb op key))) (λ e. rw e refl);
+                follow = by_test (eqb op target) (λ e. rw e (or-true (eqb op key))) (λ e. rw e refl);
                 unlocked = rw (get_or-set_other ns op (get_or openers op 0) (m + 1) 0 another) s.unlocked;
                 count = sym (get_or-set_same ns op (m + 1) 0 (omega (arith, small, s.size)));
                 size = length-set ns op (m + 1) ∙ s.size;

@@ -1,7 +1,7 @@
 -- The records of an accepted book are sound. Assumes nothing.
 use mathlib.Core.Path.{◌≡◌, refl, sym, ap, ap₂, subst, ◌∙◌}
 use mathlib.Core.List.{List, [], ◌∷◌, map, reverse, reverse_aux, reverse-reverse}
-use mathlib.Core.Bool.{Bool, false, ◌||◌, cond, and_false}
+use mathlib.Core.Bool.{Bool, false, ◌||◌, cond, and-false}
 use mathlib.Core.Option.{Option, some, none}
 use Prim.Native.Nat.{ℕ, zero, suc, ◌+◌, ◌≤◌, ◌<◌}
 use native.Mathlib.Omega.{arith}
@@ -99,7 +99,7 @@ module _ (op : ℕ) (many : get_or limits op 0 ≡ 0 → ⊥) where
   module _ (other : op ≡ target → ⊥) where
     tally_more : (c : Cmd) (here : List Cmd) → tally op (c ∷ here) ≡ cond (eqb c.op op) (suc (tally op here)) (tally op here)
     unfolding tally
-    tally_more c here = rw (slot_op c, ne_eqb op target other, and_false (eqb (slot c) key)) refl
+    tally_more c here = rw (slot_op c, ne_eqb op target other, and-false (eqb (slot c) key)) refl
 
     counted : (here : List Cmd) → tally op here ≡ length (only (is op) here)
     unfolding tally only
