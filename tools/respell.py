@@ -3,7 +3,7 @@
 
 usage: tools/respell.py            at the top of the repository, once, after the kit's port.py
 
-A name that a file imports from a library stays in that file.
+A name that a file imports from a library stays in that file. Strings stay, and so do the names of the TSConfig Reference in comments.
 
 A name is turned where it is declared in specs/ or in a lemma file of proofs/ and is neither a type nor a module: `findLast` to `find_last`, `find-here` to
 `find_here`. It turns whole words alone, in .antt files, in the contracts of .rt files and in must-fail edits. In the proof of a function a word right behind a dot is a name that the check makes, so
@@ -17,6 +17,8 @@ DECLARED = re.compile(r"^(\s*)(?:(?:pub|abbrev|unfoldable)\s+)*([^\s(){}.;,@\"«
 RECORD = re.compile(r"^(\s*)(?:pub\s+)?record\s+\S+")
 WORD = re.compile(r"[^\s(){}.;,@\"«»\[\]]+")
 OF_LIBRARY = re.compile(r"\buse\s+(?:Rattle\.(?:std|core|io|os|libc)\b|(?!Rattle\.)\w)[^\s{;]*\{([^}]*)\}")
+TEXTS = re.compile(r'"(?:[^"\\\n]|\\.)*"|--[^\n]*')
+OF_TYPESCRIPT = {"configDir", "baseUrl", "outDir", "declarationDir", "rootDir", "rootDirs", "allowJs"}
 CLAUSE = re.compile(r"^\s*(requires|ensures|ghost)\b")
 
 
@@ -87,11 +89,19 @@ def turn(text, turned, behind_a_dot=None):
         word = m.group(0)
         if word not in turned or word in stays:
             return word
-        if behind_a_dot is not None and m.start() and text[m.start() - 1] == "." and word not in behind_a_dot:
+        whole, start = m.string, m.start()
+        if behind_a_dot is not None and start and whole[start - 1] == "." and word not in behind_a_dot:
             return word
         return turned[word]
 
-    return WORD.sub(one, text)
+    out, at = [], 0
+    for it in TEXTS.finditer(text):
+        out.append(WORD.sub(one, text[at : it.start()]))
+        said = it.group(0)
+        out.append(said if said.startswith('"') else WORD.sub(lambda m: m.group(0) if m.group(0) in OF_TYPESCRIPT else one(m), said))
+        at = it.end()
+    out.append(WORD.sub(one, text[at:]))
+    return "".join(out)
 
 
 def turn_rust(text, turned):

@@ -3,7 +3,7 @@ use mathlib.Core.List.{[], ◌∷◌}
 use mathlib.Core.Path.{refl}
 use Rattle.cases.specs.Asked.{Answers, tell, ◌gets◌, B, O, C, T, refuses, gives}
 
--- BEGIN "/a/A.json", extends "/b/B.json", PATHS, key "k", target "t", END, BEGIN "/b/B.json", base_url "u", END
+-- BEGIN "/a/A.json", extends "/b/B.json", PATHS, key "k", target "t", END, BEGIN "/b/B.json", baseUrl "u", END
 pub book-base-and-base-url :
     Answers "\u{1}\0\0\t\0\u{8}\t\0\t\0\n\u{b}\u{12}\0\u{1}\0\u{c}\u{13}\0\u{1}\0\u{14}\u{1}\t\0\t\0\t\u{14}\0\u{1}\0\u{14}" "/a/A.json/b/B.jsonktu"
     ((B "/a/A" gets gives 0 1 "baseUrl=/a/u\nbase=/b/u\nkey=k\ntarget=/b/u/t\n")
@@ -263,7 +263,7 @@ pub book-loading-self-before-entries :
 unfolding tell
 book-loading-self-before-entries = refl
 
--- BEGIN "/p/tsconfig.json", base_url "u", END
+-- BEGIN "/p/tsconfig.json", baseUrl "u", END
 pub book-mapping-absolute :
     Answers "\u{1}\0\0\u{10}\0\t\u{10}\0\u{1}\0\u{14}" "/p/tsconfig.jsonu"
     ((C "/p" "/abs/x" gets gives 1 0 "\u{6}\0/abs/x")
@@ -281,7 +281,7 @@ pub book-mapping-equal-prefix :
 unfolding tell
 book-mapping-equal-prefix = refl
 
--- BEGIN "/p/tsconfig.json", base_url "u", PATHS, key "k", key "w/*", key "*", target "t/*", key "j", target "1", target "2", END
+-- BEGIN "/p/tsconfig.json", baseUrl "u", PATHS, key "k", key "w/*", key "*", target "t/*", key "j", target "1", target "2", END
 pub book-mapping-no-targets :
     Answers "\u{1}\0\0\u{10}\0\t\u{10}\0\u{1}\0\n\u{b}\u{11}\0\u{1}\0\u{b}\u{12}\0\u{3}\0\u{b}\u{15}\0\u{1}\0\u{c}\u{16}\0\u{3}\0\u{b}\u{19}\0\u{1}\0\u{c}\u{1a}\0\u{1}\0\u{c}\u{1b}\0\u{1}\0\u{14}" "/p/tsconfig.jsonukw/**t/*j12"
     ((C "/p" "k" gets gives 1 0 "\u{6}\0/p/u/k")
@@ -294,7 +294,7 @@ pub book-mapping-no-targets :
 unfolding tell
 book-mapping-no-targets = refl
 
--- BEGIN "/p/tsconfig.json", base_url "u", PATHS, key "*", target "t/*", END
+-- BEGIN "/p/tsconfig.json", baseUrl "u", PATHS, key "*", target "t/*", END
 pub book-mapping-relative :
     Answers "\u{1}\0\0\u{10}\0\t\u{10}\0\u{1}\0\n\u{b}\u{11}\0\u{1}\0\u{c}\u{12}\0\u{3}\0\u{14}" "/p/tsconfig.jsonu*t/*"
     ((C "/p" "./x" gets gives 1 0 "\u{6}\0/p/u/x")
@@ -304,7 +304,7 @@ pub book-mapping-relative :
 unfolding tell
 book-mapping-relative = refl
 
--- BEGIN "/p/tsconfig.json", base_url "/x*", PATHS, key "k/*", target "t/*", key "e", target "*", END
+-- BEGIN "/p/tsconfig.json", baseUrl "/x*", PATHS, key "k/*", target "t/*", key "e", target "*", END
 pub book-mapping-star-in-base :
     Answers "\u{1}\0\0\u{10}\0\t\u{10}\0\u{3}\0\n\u{b}\u{13}\0\u{3}\0\u{c}\u{16}\0\u{3}\0\u{b}\u{19}\0\u{1}\0\u{c}\u{1a}\0\u{1}\0\u{14}" "/p/tsconfig.json/x*k/*t/*e*"
     ((C "/p" "k/1" gets gives 1 0 "\u{7}\0/x1/t/*")
@@ -331,7 +331,7 @@ pub book-order-any :
 unfolding tell
 book-order-any = refl
 
--- BEGIN "/a", base_url "", base_url ""
+-- BEGIN "/a", baseUrl "", baseUrl ""
 pub book-order-base-url-twice :
     Answers "\u{1}\0\0\u{2}\0\t\u{2}\0\0\0\t\u{2}\0\0\0" "/a"
     ((B "/a" gets refuses 3 10)
@@ -339,7 +339,7 @@ pub book-order-base-url-twice :
 unfolding tell
 book-order-base-url-twice = refl
 
--- BEGIN "/a", declaration_dir "", declaration_dir ""
+-- BEGIN "/a", declarationDir "", declarationDir ""
 pub book-order-declaration-dir-twice :
     Answers "\u{1}\0\0\u{2}\0\u{11}\u{2}\0\0\0\u{11}\u{2}\0\0\0" "/a"
     ((B "/a" gets refuses 3 10)
@@ -435,7 +435,7 @@ pub book-order-key-before-paths :
 unfolding tell
 book-order-key-before-paths = refl
 
--- BEGIN "/a", out_dir "", out_dir ""
+-- BEGIN "/a", outDir "", outDir ""
 pub book-order-out-dir-twice :
     Answers "\u{1}\0\0\u{2}\0\u{10}\u{2}\0\0\0\u{10}\u{2}\0\0\0" "/a"
     ((B "/a" gets refuses 3 10)
@@ -451,7 +451,7 @@ pub book-order-paths-twice :
 unfolding tell
 book-order-paths-twice = refl
 
--- BEGIN "/a", root_dir "x"
+-- BEGIN "/a", rootDir "x"
 pub book-order-root-dir-before :
     Answers "\u{1}\0\0\u{2}\0\u{f}\u{2}\0\u{1}\0" "/ax"
     ((B "/a" gets refuses 3 5)
@@ -507,7 +507,7 @@ pub book-order-text-twice :
 unfolding tell
 book-order-text-twice = refl
 
--- BEGIN "/p/tsconfig.json", base_url "/u/w/", PATHS, key "k", target "../*", target "x", target "../../*", END
+-- BEGIN "/p/tsconfig.json", baseUrl "/u/w/", PATHS, key "k", target "../*", target "x", target "../../*", END
 pub book-paths-base-url-0 :
     Answers "\u{1}\0\0\u{10}\0\t\u{10}\0\u{5}\0\n\u{b}\u{15}\0\u{1}\0\u{c}\u{16}\0\u{4}\0\u{c}\u{1a}\0\u{1}\0\u{c}\u{1b}\0\u{7}\0\u{14}" "/p/tsconfig.json/u/w/k../*x../../*"
     ((B "/p" gets gives 0 0 "baseUrl=/u/w/\nbase=/u/w/\nkey=k\ntarget=/u/*\ntarget=/u/w/x\ntarget=/*\n")
@@ -515,7 +515,7 @@ pub book-paths-base-url-0 :
 unfolding tell
 book-paths-base-url-0 = refl
 
--- BEGIN "/p/tsconfig.json", base_url "/u/w/.", PATHS, key "k", target "../*", target "x", target "../../*", END
+-- BEGIN "/p/tsconfig.json", baseUrl "/u/w/.", PATHS, key "k", target "../*", target "x", target "../../*", END
 pub book-paths-base-url-1 :
     Answers "\u{1}\0\0\u{10}\0\t\u{10}\0\u{6}\0\n\u{b}\u{16}\0\u{1}\0\u{c}\u{17}\0\u{4}\0\u{c}\u{1b}\0\u{1}\0\u{c}\u{1c}\0\u{7}\0\u{14}" "/p/tsconfig.json/u/w/.k../*x../../*"
     ((B "/p" gets gives 0 0 "baseUrl=/u/w/.\nbase=/u/w/.\nkey=k\ntarget=/u/*\ntarget=/u/w/./x\ntarget=/*\n")
@@ -523,7 +523,7 @@ pub book-paths-base-url-1 :
 unfolding tell
 book-paths-base-url-1 = refl
 
--- BEGIN "/p/tsconfig.json", base_url "/u/w/..", PATHS, key "k", target "../*", target "x", target "../../*", END
+-- BEGIN "/p/tsconfig.json", baseUrl "/u/w/..", PATHS, key "k", target "../*", target "x", target "../../*", END
 pub book-paths-base-url-2 :
     Answers "\u{1}\0\0\u{10}\0\t\u{10}\0\u{7}\0\n\u{b}\u{17}\0\u{1}\0\u{c}\u{18}\0\u{4}\0\u{c}\u{1c}\0\u{1}\0\u{c}\u{1d}\0\u{7}\0\u{14}" "/p/tsconfig.json/u/w/..k../*x../../*"
     ((B "/p" gets gives 0 0 "baseUrl=/u/w/..\nbase=/u/w/..\nkey=k\ntarget=/u/w/*\ntarget=/u/w/../x\ntarget=/u/*\n")
@@ -531,7 +531,7 @@ pub book-paths-base-url-2 :
 unfolding tell
 book-paths-base-url-2 = refl
 
--- BEGIN "/p/tsconfig.json", base_url "//u//w", PATHS, key "k", target "../*", target "x", target "../../*", END
+-- BEGIN "/p/tsconfig.json", baseUrl "//u//w", PATHS, key "k", target "../*", target "x", target "../../*", END
 pub book-paths-base-url-3 :
     Answers "\u{1}\0\0\u{10}\0\t\u{10}\0\u{6}\0\n\u{b}\u{16}\0\u{1}\0\u{c}\u{17}\0\u{4}\0\u{c}\u{1b}\0\u{1}\0\u{c}\u{1c}\0\u{7}\0\u{14}" "/p/tsconfig.json//u//wk../*x../../*"
     ((B "/p" gets gives 0 0 "baseUrl=//u//w\nbase=//u//w\nkey=k\ntarget=//u/*\ntarget=//u//w/x\ntarget=/*\n")
@@ -539,17 +539,17 @@ pub book-paths-base-url-3 :
 unfolding tell
 book-paths-base-url-3 = refl
 
--- BEGIN "/p/tsconfig.json", FILES, file "${config_dir}", file "${config_dir}//x/../y/", file "src/", file "/abs/", out_dir "${config_dir}x", END, BEGIN
--- "/tsconfig.json", FILES, file "${config_dir}", EXCLUDE, exclude "${config_dir}/..", END
+-- BEGIN "/p/tsconfig.json", FILES, file "${configDir}", file "${configDir}//x/../y/", file "src/", file "/abs/", outDir "${configDir}x", END, BEGIN
+-- "/tsconfig.json", FILES, file "${configDir}", EXCLUDE, exclude "${configDir}/..", END
 pub book-paths-config-dir :
-    Answers "\u{1}\0\0\u{10}\0\u{2}\u{3}\u{10}\0\u{c}\0\u{3}\u{1c}\0\u{15}\0\u{3}1\0\u{4}\0\u{3}5\0\u{5}\0\u{10}:\0\r\0\u{14}\u{1}G\0\u{e}\0\u{2}\u{3}\u{10}\0\u{c}\0\u{6}\u{7}U\0\u{f}\0\u{14}" "/p/tsconfig.json${config_dir}${config_dir}//x/../y/src//abs/${config_dir}x/tsconfig.json${config_dir}/.."
+    Answers "\u{1}\0\0\u{10}\0\u{2}\u{3}\u{10}\0\u{c}\0\u{3}\u{1c}\0\u{15}\0\u{3}1\0\u{4}\0\u{3}5\0\u{5}\0\u{10}:\0\r\0\u{14}\u{1}G\0\u{e}\0\u{2}\u{3}\u{10}\0\u{c}\0\u{6}\u{7}U\0\u{f}\0\u{14}" "/p/tsconfig.json${configDir}${configDir}//x/../y/src//abs/${configDir}x/tsconfig.json${configDir}/.."
     ((B "/p" gets gives 0 0 "files=/p/\nfiles=/p/x/../y/\nfiles=/p/src\nfiles=/abs/\nbase=/p\noutDir=/p/x\n")
     ∷ (B "/" gets gives 1 0 "files=/\nexclude=/..\nbase=/\n")
     ∷ [])
 unfolding tell
 book-paths-config-dir = refl
 
--- BEGIN "/p/tsconfig.json", base_url "", PATHS, key "a/*", target "src/*", target "../*", target "", key "b", target "", END
+-- BEGIN "/p/tsconfig.json", baseUrl "", PATHS, key "a/*", target "src/*", target "../*", target "", key "b", target "", END
 pub book-paths-empty-base-url :
     Answers "\u{1}\0\0\u{10}\0\t\u{10}\0\0\0\n\u{b}\u{10}\0\u{3}\0\u{c}\u{13}\0\u{5}\0\u{c}\u{18}\0\u{4}\0\u{c}\u{10}\0\0\0\u{b}\u{1c}\0\u{1}\0\u{c}\u{10}\0\0\0\u{14}" "/p/tsconfig.jsona/*src/*../*b"
     ((B "/p" gets gives 0 0 "baseUrl=\nbase=\nkey=a/*\ntarget=src/*\ntarget=*\ntarget=\nkey=b\ntarget=\n")
@@ -559,7 +559,7 @@ pub book-paths-empty-base-url :
 unfolding tell
 book-paths-empty-base-url = refl
 
--- BEGIN "/p/tsconfig.json", ROOTDIRS, root_dir "src", root_dir "gen", END
+-- BEGIN "/p/tsconfig.json", ROOTDIRS, rootDir "src", rootDir "gen", END
 pub book-paths-root-dirs-dot :
     Answers "\u{1}\0\0\u{10}\0\u{e}\u{f}\u{10}\0\u{3}\0\u{f}\u{13}\0\u{3}\0\u{14}" "/p/tsconfig.jsonsrcgen"
     ((T "/p" "/p/src" "." gets gives 2 0 "\u{6}\0/p/src\0\0")
@@ -567,16 +567,16 @@ pub book-paths-root-dirs-dot :
 unfolding tell
 book-paths-root-dirs-dot = refl
 
--- BEGIN "/p/tsconfig.json", PATHS, key "k/*", target "a/../*/b/./", target "${config_dir}/../*", target "/x/../*/", END
+-- BEGIN "/p/tsconfig.json", PATHS, key "k/*", target "a/../*/b/./", target "${configDir}/../*", target "/x/../*/", END
 pub book-paths-targets :
-    Answers "\u{1}\0\0\u{10}\0\n\u{b}\u{10}\0\u{3}\0\u{c}\u{13}\0\u{b}\0\u{c}\u{1e}\0\u{11}\0\u{c}/\0\u{8}\0\u{14}" "/p/tsconfig.jsonk/*a/../*/b/./${config_dir}/../*/x/../*/"
+    Answers "\u{1}\0\0\u{10}\0\n\u{b}\u{10}\0\u{3}\0\u{c}\u{13}\0\u{b}\0\u{c}\u{1e}\0\u{11}\0\u{c}/\0\u{8}\0\u{14}" "/p/tsconfig.jsonk/*a/../*/b/./${configDir}/../*/x/../*/"
     ((B "/p" gets gives 0 0 "base=/p\nkey=k/*\ntarget=/p/*/b\ntarget=/p/../*\ntarget=/x/../*/\n")
     ∷ (C "/p" "k/../z/." gets gives 3 0 "\u{b}\0/p/../z/./b\u{c}\0/p/../../z/.\r\0/x/../../z/./")
     ∷ [])
 unfolding tell
 book-paths-targets = refl
 
--- BEGIN "/p/tsconfig.json", FILES, base_url "/a/b", PATHS, key "k", target "../c", target "", target "/u/../v", ROOTDIRS, out_dir "../../../z", END
+-- BEGIN "/p/tsconfig.json", FILES, baseUrl "/a/b", PATHS, key "k", target "../c", target "", target "/u/../v", ROOTDIRS, outDir "../../../z", END
 pub book-proved-1-to-4 :
     Answers "\u{1}\0\0\u{10}\0\u{2}\t\u{10}\0\u{4}\0\n\u{b}\u{14}\0\u{1}\0\u{c}\u{15}\0\u{4}\0\u{c}\u{19}\0\0\0\u{c}\u{19}\0\u{7}\0\u{e}\u{10} \0\n\0\u{14}" "/p/tsconfig.json/a/bk../c/u/../v../../../z"
     ((B "/p" gets gives 0 0 "files\nbaseUrl=/a/b\nbase=/a/b\nkey=k\ntarget=/a/c\ntarget=\ntarget=/u/../v\nrootDir\noutDir=/z\n")
@@ -619,9 +619,9 @@ pub book-proved-14 :
 unfolding tell
 book-proved-14 = refl
 
--- BEGIN "/p/tsconfig.json", out_dir "${config_dir}", END
+-- BEGIN "/p/tsconfig.json", outDir "${configDir}", END
 pub book-proved-5 :
-    Answers "\u{1}\0\0\u{10}\0\u{10}\u{10}\0\u{c}\0\u{14}" "/p/tsconfig.json${config_dir}"
+    Answers "\u{1}\0\0\u{10}\0\u{10}\u{10}\0\u{c}\0\u{14}" "/p/tsconfig.json${configDir}"
     ((B "/p" gets gives 0 0 "base=/p\noutDir=/p/\n")
     ∷ [])
 unfolding tell
@@ -660,7 +660,7 @@ pub book-reading-01 :
 unfolding tell
 book-reading-01 = refl
 
--- BEGIN "/p/t.json", base_url "", END
+-- BEGIN "/p/t.json", baseUrl "", END
 pub book-reading-02-at-the-end :
     Answers "\u{1}\0\0\t\0\t\t\0\0\0\u{14}" "/p/t.json"
     ((B "/p/t" gets gives 0 0 "baseUrl=\nbase=\n")
@@ -668,7 +668,7 @@ pub book-reading-02-at-the-end :
 unfolding tell
 book-reading-02-at-the-end = refl
 
--- BEGIN "/p/t.json", base_url 8+2, END
+-- BEGIN "/p/t.json", baseUrl 8+2, END
 pub book-reading-02-one-too-long :
     Answers "\u{1}\0\0\t\0\t\u{8}\0\u{2}\0\u{14}" "/p/t.json"
     ((B "/p/t" gets refuses 4 5)
@@ -676,7 +676,7 @@ pub book-reading-02-one-too-long :
 unfolding tell
 book-reading-02-one-too-long = refl
 
--- BEGIN "/p/t.json", base_url 10+0, END
+-- BEGIN "/p/t.json", baseUrl 10+0, END
 pub book-reading-02-past-the-end :
     Answers "\u{1}\0\0\t\0\t\n\0\0\0\u{14}" "/p/t.json"
     ((B "/p/t" gets refuses 4 5)
@@ -1068,33 +1068,33 @@ pub book-reading-04-repeated :
 unfolding tell
 book-reading-04-repeated = refl
 
--- BEGIN "/a", INCLUDE, include "${config_dir}**", END
+-- BEGIN "/a", INCLUDE, include "${configDir}**", END
 pub book-reading-05-00-5 :
-    Answers "\u{1}\0\0\u{2}\0\u{4}\u{5}\u{2}\0\u{e}\0\u{14}" "/a${config_dir}**"
+    Answers "\u{1}\0\0\u{2}\0\u{4}\u{5}\u{2}\0\u{e}\0\u{14}" "/a${configDir}**"
     ((B "relative" gets refuses 7 0)
     ∷ [])
 unfolding tell
 book-reading-05-00-5 = refl
 
--- BEGIN "/a", EXCLUDE, exclude "${config_dir}**", END
+-- BEGIN "/a", EXCLUDE, exclude "${configDir}**", END
 pub book-reading-05-00-7 :
-    Answers "\u{1}\0\0\u{2}\0\u{6}\u{7}\u{2}\0\u{e}\0\u{14}" "/a${config_dir}**"
+    Answers "\u{1}\0\0\u{2}\0\u{6}\u{7}\u{2}\0\u{e}\0\u{14}" "/a${configDir}**"
     ((B "relative" gets refuses 7 0)
     ∷ [])
 unfolding tell
 book-reading-05-00-7 = refl
 
--- BEGIN "/a", INCLUDE, include "${config_dir}/**", END
+-- BEGIN "/a", INCLUDE, include "${configDir}/**", END
 pub book-reading-05-01-5 :
-    Answers "\u{1}\0\0\u{2}\0\u{4}\u{5}\u{2}\0\u{f}\0\u{14}" "/a${config_dir}/**"
+    Answers "\u{1}\0\0\u{2}\0\u{4}\u{5}\u{2}\0\u{f}\0\u{14}" "/a${configDir}/**"
     ((B "relative" gets refuses 7 0)
     ∷ [])
 unfolding tell
 book-reading-05-01-5 = refl
 
--- BEGIN "/a", EXCLUDE, exclude "${config_dir}/**", END
+-- BEGIN "/a", EXCLUDE, exclude "${configDir}/**", END
 pub book-reading-05-01-7 :
-    Answers "\u{1}\0\0\u{2}\0\u{6}\u{7}\u{2}\0\u{f}\0\u{14}" "/a${config_dir}/**"
+    Answers "\u{1}\0\0\u{2}\0\u{6}\u{7}\u{2}\0\u{f}\0\u{14}" "/a${configDir}/**"
     ((B "relative" gets refuses 7 0)
     ∷ [])
 unfolding tell
@@ -1212,17 +1212,17 @@ pub book-reading-05-08-7 :
 unfolding tell
 book-reading-05-08-7 = refl
 
--- BEGIN "/a", INCLUDE, include "${config_dir}a**", END
+-- BEGIN "/a", INCLUDE, include "${configDir}a**", END
 pub book-reading-05-09-5 :
-    Answers "\u{1}\0\0\u{2}\0\u{4}\u{5}\u{2}\0\u{f}\0\u{14}" "/a${config_dir}a**"
+    Answers "\u{1}\0\0\u{2}\0\u{4}\u{5}\u{2}\0\u{f}\0\u{14}" "/a${configDir}a**"
     ((B "/a" gets refuses 4 6)
     ∷ [])
 unfolding tell
 book-reading-05-09-5 = refl
 
--- BEGIN "/a", EXCLUDE, exclude "${config_dir}a**", END
+-- BEGIN "/a", EXCLUDE, exclude "${configDir}a**", END
 pub book-reading-05-09-7 :
-    Answers "\u{1}\0\0\u{2}\0\u{6}\u{7}\u{2}\0\u{f}\0\u{14}" "/a${config_dir}a**"
+    Answers "\u{1}\0\0\u{2}\0\u{6}\u{7}\u{2}\0\u{f}\0\u{14}" "/a${configDir}a**"
     ((B "/a" gets refuses 4 6)
     ∷ [])
 unfolding tell
@@ -1340,33 +1340,33 @@ pub book-reading-05-16-7 :
 unfolding tell
 book-reading-05-16-7 = refl
 
--- BEGIN "/a", INCLUDE, include "a/${config_dir}", END
+-- BEGIN "/a", INCLUDE, include "a/${configDir}", END
 pub book-reading-05-17-5 :
-    Answers "\u{1}\0\0\u{2}\0\u{4}\u{5}\u{2}\0\u{e}\0\u{14}" "/aa/${config_dir}"
+    Answers "\u{1}\0\0\u{2}\0\u{4}\u{5}\u{2}\0\u{e}\0\u{14}" "/aa/${configDir}"
     ((B "/a" gets refuses 4 6)
     ∷ [])
 unfolding tell
 book-reading-05-17-5 = refl
 
--- BEGIN "/a", EXCLUDE, exclude "a/${config_dir}", END
+-- BEGIN "/a", EXCLUDE, exclude "a/${configDir}", END
 pub book-reading-05-17-7 :
-    Answers "\u{1}\0\0\u{2}\0\u{6}\u{7}\u{2}\0\u{e}\0\u{14}" "/aa/${config_dir}"
+    Answers "\u{1}\0\0\u{2}\0\u{6}\u{7}\u{2}\0\u{e}\0\u{14}" "/aa/${configDir}"
     ((B "/a" gets refuses 4 6)
     ∷ [])
 unfolding tell
 book-reading-05-17-7 = refl
 
--- BEGIN "/a", INCLUDE, include "${config_dir}${config_dir}", END
+-- BEGIN "/a", INCLUDE, include "${configDir}${configDir}", END
 pub book-reading-05-18-5 :
-    Answers "\u{1}\0\0\u{2}\0\u{4}\u{5}\u{2}\0\u{18}\0\u{14}" "/a${config_dir}${config_dir}"
+    Answers "\u{1}\0\0\u{2}\0\u{4}\u{5}\u{2}\0\u{18}\0\u{14}" "/a${configDir}${configDir}"
     ((B "/a" gets refuses 4 6)
     ∷ [])
 unfolding tell
 book-reading-05-18-5 = refl
 
--- BEGIN "/a", EXCLUDE, exclude "${config_dir}${config_dir}", END
+-- BEGIN "/a", EXCLUDE, exclude "${configDir}${configDir}", END
 pub book-reading-05-18-7 :
-    Answers "\u{1}\0\0\u{2}\0\u{6}\u{7}\u{2}\0\u{18}\0\u{14}" "/a${config_dir}${config_dir}"
+    Answers "\u{1}\0\0\u{2}\0\u{6}\u{7}\u{2}\0\u{18}\0\u{14}" "/a${configDir}${configDir}"
     ((B "/a" gets refuses 4 6)
     ∷ [])
 unfolding tell
@@ -1446,7 +1446,7 @@ pub book-reading-06-reference :
 unfolding tell
 book-reading-06-reference = refl
 
--- BEGIN "/p/tsconfig.json", base_url "u", END, BEGIN "/q/tsconfig.json", extends "./none", END
+-- BEGIN "/p/tsconfig.json", baseUrl "u", END, BEGIN "/q/tsconfig.json", extends "./none", END
 pub book-reading-07 :
     Answers "\u{1}\0\0\u{10}\0\t\u{10}\0\u{1}\0\u{14}\u{1}\u{11}\0\u{10}\0\u{8}!\0\u{6}\0\u{14}" "/p/tsconfig.jsonu/q/tsconfig.json./none"
     ((T "/q" "/p/node_modules" "x" gets refuses 8 1)
@@ -1489,8 +1489,8 @@ pub book-reading-10 :
 unfolding tell
 book-reading-10 = refl
 
--- BEGIN "/a/1", FILES, file "", INCLUDE, include "", EXCLUDE, exclude "", PATHS, key "", target "", key "k", ROOTDIRS, root_dir "", out_dir "",
--- declaration_dir "", text 0 "", END, BEGIN "/a/2", FILES, INCLUDE, EXCLUDE, PATHS, ROOTDIRS, END
+-- BEGIN "/a/1", FILES, file "", INCLUDE, include "", EXCLUDE, exclude "", PATHS, key "", target "", key "k", ROOTDIRS, rootDir "", outDir "",
+-- declarationDir "", text 0 "", END, BEGIN "/a/2", FILES, INCLUDE, EXCLUDE, PATHS, ROOTDIRS, END
 pub book-reading-11 :
     Answers "\u{1}\0\0\u{4}\0\u{2}\u{3}\u{4}\0\0\0\u{4}\u{5}\u{4}\0\0\0\u{6}\u{7}\u{4}\0\0\0\n\u{b}\u{4}\0\0\0\u{c}\u{4}\0\0\0\u{b}\u{4}\0\u{1}\0\u{e}\u{f}\u{4}\0\0\0\u{10}\u{4}\0\0\0\u{11}\u{4}\0\0\0\u{13}\0\u{4}\0\0\0\u{14}\u{1}\u{5}\0\u{4}\0\u{2}\u{4}\u{6}\n\u{e}\u{14}" "/a/1k/a/2"
     ((B "/a/1" gets gives 0 0 "files=\ninclude=\nexclude=\nbase=/a\nkey=\ntarget=\nkey=k\nrootDir=\noutDir=\ndeclarationDir=\ntext 0=\n")
@@ -1528,7 +1528,7 @@ pub book-reading-13-book-first :
 unfolding tell
 book-reading-13-book-first = refl
 
--- BEGIN "/p/1", ROOTDIRS, root_dir "/p/src", root_dir "/p/src/", root_dir "/p/gen", END, BEGIN "/p/2", ROOTDIRS, root_dir "", root_dir "/g", END, BEGIN
+-- BEGIN "/p/1", ROOTDIRS, rootDir "/p/src", rootDir "/p/src/", rootDir "/p/gen", END, BEGIN "/p/2", ROOTDIRS, rootDir "", rootDir "/g", END, BEGIN
 -- "/p/3", ROOTDIRS, END
 pub book-root-dirs :
     Answers "\u{1}\0\0\u{4}\0\u{e}\u{f}\u{4}\0\u{6}\0\u{f}\n\0\u{7}\0\u{f}\u{11}\0\u{6}\0\u{14}\u{1}\u{17}\0\u{4}\0\u{e}\u{f}\u{1b}\0\0\0\u{f}\u{1b}\0\u{2}\0\u{14}\u{1}\u{1d}\0\u{4}\0\u{e}\u{14}" "/p/1/p/src/p/src//p/gen/p/2/g/p/3"
@@ -1541,7 +1541,7 @@ pub book-root-dirs :
 unfolding tell
 book-root-dirs = refl
 
--- BEGIN "/p/tsconfig.json", ROOTDIRS, root_dir "src", root_dir "gen", END
+-- BEGIN "/p/tsconfig.json", ROOTDIRS, rootDir "src", rootDir "gen", END
 pub book-seen-00 :
     Answers "\u{1}\0\0\u{10}\0\u{e}\u{f}\u{10}\0\u{3}\0\u{f}\u{13}\0\u{3}\0\u{14}" "/p/tsconfig.jsonsrcgen"
     ((T "/p" "/p/src" "." gets gives 2 0 "\u{6}\0/p/src\0\0")
@@ -1553,7 +1553,7 @@ pub book-seen-00 :
 unfolding tell
 book-seen-00 = refl
 
--- BEGIN "/p/tsconfig.json", base_url "", PATHS, key "a/*", target "src/*", target "../*", target "", key "b", target "", END
+-- BEGIN "/p/tsconfig.json", baseUrl "", PATHS, key "a/*", target "src/*", target "../*", target "", key "b", target "", END
 pub book-seen-01 :
     Answers "\u{1}\0\0\u{10}\0\t\u{10}\0\0\0\n\u{b}\u{10}\0\u{3}\0\u{c}\u{13}\0\u{5}\0\u{c}\u{18}\0\u{4}\0\u{c}\u{10}\0\0\0\u{b}\u{1c}\0\u{1}\0\u{c}\u{10}\0\0\0\u{14}" "/p/tsconfig.jsona/*src/*../*b"
     ((B "/p" gets gives 0 0 "baseUrl=\nbase=\nkey=a/*\ntarget=src/*\ntarget=*\ntarget=\nkey=b\ntarget=\n")
@@ -1567,7 +1567,7 @@ pub book-seen-01 :
 unfolding tell
 book-seen-01 = refl
 
--- BEGIN "/p/tsconfig.json", base_url "/u/w/", PATHS, key "*", target "../*", target "x", target "../../*", END
+-- BEGIN "/p/tsconfig.json", baseUrl "/u/w/", PATHS, key "*", target "../*", target "x", target "../../*", END
 pub book-seen-02 :
     Answers "\u{1}\0\0\u{10}\0\t\u{10}\0\u{5}\0\n\u{b}\u{15}\0\u{1}\0\u{c}\u{16}\0\u{4}\0\u{c}\u{1a}\0\u{1}\0\u{c}\u{1b}\0\u{7}\0\u{14}" "/p/tsconfig.json/u/w/*../*x../../*"
     ((B "/p" gets gives 0 0 "baseUrl=/u/w/\nbase=/u/w/\nkey=*\ntarget=/u/*\ntarget=/u/w/x\ntarget=/*\n")
@@ -1581,7 +1581,7 @@ pub book-seen-02 :
 unfolding tell
 book-seen-02 = refl
 
--- BEGIN "/p/tsconfig.json", base_url "/u/w/.", PATHS, key "*", target "../*", target "x", target "../../*", END
+-- BEGIN "/p/tsconfig.json", baseUrl "/u/w/.", PATHS, key "*", target "../*", target "x", target "../../*", END
 pub book-seen-03 :
     Answers "\u{1}\0\0\u{10}\0\t\u{10}\0\u{6}\0\n\u{b}\u{16}\0\u{1}\0\u{c}\u{17}\0\u{4}\0\u{c}\u{1b}\0\u{1}\0\u{c}\u{1c}\0\u{7}\0\u{14}" "/p/tsconfig.json/u/w/.*../*x../../*"
     ((B "/p" gets gives 0 0 "baseUrl=/u/w/.\nbase=/u/w/.\nkey=*\ntarget=/u/*\ntarget=/u/w/./x\ntarget=/*\n")
@@ -1595,7 +1595,7 @@ pub book-seen-03 :
 unfolding tell
 book-seen-03 = refl
 
--- BEGIN "/p/tsconfig.json", base_url "/u/w/..", PATHS, key "*", target "../*", target "x", target "../../*", END
+-- BEGIN "/p/tsconfig.json", baseUrl "/u/w/..", PATHS, key "*", target "../*", target "x", target "../../*", END
 pub book-seen-04 :
     Answers "\u{1}\0\0\u{10}\0\t\u{10}\0\u{7}\0\n\u{b}\u{17}\0\u{1}\0\u{c}\u{18}\0\u{4}\0\u{c}\u{1c}\0\u{1}\0\u{c}\u{1d}\0\u{7}\0\u{14}" "/p/tsconfig.json/u/w/..*../*x../../*"
     ((B "/p" gets gives 0 0 "baseUrl=/u/w/..\nbase=/u/w/..\nkey=*\ntarget=/u/w/*\ntarget=/u/w/../x\ntarget=/u/*\n")
@@ -1609,7 +1609,7 @@ pub book-seen-04 :
 unfolding tell
 book-seen-04 = refl
 
--- BEGIN "/p/tsconfig.json", base_url "//u//w", PATHS, key "*", target "../*", target "x", target "../../*", END
+-- BEGIN "/p/tsconfig.json", baseUrl "//u//w", PATHS, key "*", target "../*", target "x", target "../../*", END
 pub book-seen-05 :
     Answers "\u{1}\0\0\u{10}\0\t\u{10}\0\u{6}\0\n\u{b}\u{16}\0\u{1}\0\u{c}\u{17}\0\u{4}\0\u{c}\u{1b}\0\u{1}\0\u{c}\u{1c}\0\u{7}\0\u{14}" "/p/tsconfig.json//u//w*../*x../../*"
     ((B "/p" gets gives 0 0 "baseUrl=//u//w\nbase=//u//w\nkey=*\ntarget=//u/*\ntarget=//u//w/x\ntarget=/*\n")
@@ -1623,9 +1623,9 @@ pub book-seen-05 :
 unfolding tell
 book-seen-05 = refl
 
--- BEGIN "/p/tsconfig.json", base_url "${config_dir}", PATHS, key "*", target "../*", target "x", target "../../*", END
+-- BEGIN "/p/tsconfig.json", baseUrl "${configDir}", PATHS, key "*", target "../*", target "x", target "../../*", END
 pub book-seen-06 :
-    Answers "\u{1}\0\0\u{10}\0\t\u{10}\0\u{c}\0\n\u{b}\u{1c}\0\u{1}\0\u{c}\u{1d}\0\u{4}\0\u{c}!\0\u{1}\0\u{c}\"\0\u{7}\0\u{14}" "/p/tsconfig.json${config_dir}*../*x../../*"
+    Answers "\u{1}\0\0\u{10}\0\t\u{10}\0\u{c}\0\n\u{b}\u{1c}\0\u{1}\0\u{c}\u{1d}\0\u{4}\0\u{c}!\0\u{1}\0\u{c}\"\0\u{7}\0\u{14}" "/p/tsconfig.json${configDir}*../*x../../*"
     ((B "/p" gets gives 0 0 "baseUrl=/p/\nbase=/p/\nkey=*\ntarget=/*\ntarget=/p/x\ntarget=/*\n")
     ∷ (C "/p" "q" gets gives 3 0 "\u{2}\0/q\u{4}\0/p/x\u{2}\0/q")
     ∷ (C "/p" "./q" gets gives 1 0 "\u{4}\0/p/q")
@@ -1637,9 +1637,9 @@ pub book-seen-06 :
 unfolding tell
 book-seen-06 = refl
 
--- BEGIN "/p/tsconfig.json", base_url "${config_dir}//x/../y/", PATHS, key "*", target "../*", target "x", target "../../*", END
+-- BEGIN "/p/tsconfig.json", baseUrl "${configDir}//x/../y/", PATHS, key "*", target "../*", target "x", target "../../*", END
 pub book-seen-07 :
-    Answers "\u{1}\0\0\u{10}\0\t\u{10}\0\u{15}\0\n\u{b}%\0\u{1}\0\u{c}&\0\u{4}\0\u{c}*\0\u{1}\0\u{c}+\0\u{7}\0\u{14}" "/p/tsconfig.json${config_dir}//x/../y/*../*x../../*"
+    Answers "\u{1}\0\0\u{10}\0\t\u{10}\0\u{15}\0\n\u{b}%\0\u{1}\0\u{c}&\0\u{4}\0\u{c}*\0\u{1}\0\u{c}+\0\u{7}\0\u{14}" "/p/tsconfig.json${configDir}//x/../y/*../*x../../*"
     ((B "/p" gets gives 0 0 "baseUrl=/p/x/../y/\nbase=/p/x/../y/\nkey=*\ntarget=/p/x/../*\ntarget=/p/x/../y/x\ntarget=/p/x/*\n")
     ∷ (C "/p" "q" gets gives 3 0 "\t\0/p/x/../q\u{b}\0/p/x/../y/x\u{6}\0/p/x/q")
     ∷ (C "/p" "./q" gets gives 1 0 "\u{b}\0/p/x/../y/q")
@@ -1651,7 +1651,7 @@ pub book-seen-07 :
 unfolding tell
 book-seen-07 = refl
 
--- BEGIN "/p/tsconfig.json", base_url ".", PATHS, key "*", target "../*", target "x", target "../../*", END
+-- BEGIN "/p/tsconfig.json", baseUrl ".", PATHS, key "*", target "../*", target "x", target "../../*", END
 pub book-seen-08 :
     Answers "\u{1}\0\0\u{10}\0\t\u{10}\0\u{1}\0\n\u{b}\u{11}\0\u{1}\0\u{c}\u{12}\0\u{4}\0\u{c}\u{16}\0\u{1}\0\u{c}\u{17}\0\u{7}\0\u{14}" "/p/tsconfig.json.*../*x../../*"
     ((B "/p" gets gives 0 0 "baseUrl=/p\nbase=/p\nkey=*\ntarget=/*\ntarget=/p/x\ntarget=/*\n")
@@ -1665,7 +1665,7 @@ pub book-seen-08 :
 unfolding tell
 book-seen-08 = refl
 
--- BEGIN "/p/tsconfig.json", base_url "./", PATHS, key "*", target "../*", target "x", target "../../*", END
+-- BEGIN "/p/tsconfig.json", baseUrl "./", PATHS, key "*", target "../*", target "x", target "../../*", END
 pub book-seen-09 :
     Answers "\u{1}\0\0\u{10}\0\t\u{10}\0\u{2}\0\n\u{b}\u{12}\0\u{1}\0\u{c}\u{13}\0\u{4}\0\u{c}\u{17}\0\u{1}\0\u{c}\u{18}\0\u{7}\0\u{14}" "/p/tsconfig.json./*../*x../../*"
     ((B "/p" gets gives 0 0 "baseUrl=/p\nbase=/p\nkey=*\ntarget=/*\ntarget=/p/x\ntarget=/*\n")
@@ -1679,7 +1679,7 @@ pub book-seen-09 :
 unfolding tell
 book-seen-09 = refl
 
--- BEGIN "/p/tsconfig.json", base_url "..", PATHS, key "*", target "../*", target "x", target "../../*", END
+-- BEGIN "/p/tsconfig.json", baseUrl "..", PATHS, key "*", target "../*", target "x", target "../../*", END
 pub book-seen-10 :
     Answers "\u{1}\0\0\u{10}\0\t\u{10}\0\u{2}\0\n\u{b}\u{12}\0\u{1}\0\u{c}\u{13}\0\u{4}\0\u{c}\u{17}\0\u{1}\0\u{c}\u{18}\0\u{7}\0\u{14}" "/p/tsconfig.json..*../*x../../*"
     ((B "/p" gets gives 0 0 "baseUrl=/\nbase=/\nkey=*\ntarget=/*\ntarget=/x\ntarget=/*\n")
@@ -1693,7 +1693,7 @@ pub book-seen-10 :
 unfolding tell
 book-seen-10 = refl
 
--- BEGIN "/p/tsconfig.json", base_url "/x*", PATHS, key "*", target "../*", target "x", target "../../*", END
+-- BEGIN "/p/tsconfig.json", baseUrl "/x*", PATHS, key "*", target "../*", target "x", target "../../*", END
 pub book-seen-11 :
     Answers "\u{1}\0\0\u{10}\0\t\u{10}\0\u{3}\0\n\u{b}\u{13}\0\u{1}\0\u{c}\u{14}\0\u{4}\0\u{c}\u{18}\0\u{1}\0\u{c}\u{19}\0\u{7}\0\u{14}" "/p/tsconfig.json/x**../*x../../*"
     ((B "/p" gets gives 0 0 "baseUrl=/x*\nbase=/x*\nkey=*\ntarget=/*\ntarget=/x*/x\ntarget=/*\n")
@@ -1707,10 +1707,10 @@ pub book-seen-11 :
 unfolding tell
 book-seen-11 = refl
 
--- BEGIN "/p/tsconfig.json", INCLUDE, include "${config_dir}", ROOTDIRS, root_dir "${config_dir}//x/../y/", root_dir "a/", root_dir "/a/", out_dir
--- "${config_dir}out", declaration_dir "./d/", END
+-- BEGIN "/p/tsconfig.json", INCLUDE, include "${configDir}", ROOTDIRS, rootDir "${configDir}//x/../y/", rootDir "a/", rootDir "/a/", outDir
+-- "${configDir}out", declarationDir "./d/", END
 pub book-seen-12 :
-    Answers "\u{1}\0\0\u{10}\0\u{4}\u{5}\u{10}\0\u{c}\0\u{e}\u{f}\u{1c}\0\u{15}\0\u{f}1\0\u{2}\0\u{f}3\0\u{3}\0\u{10}6\0\u{f}\0\u{11}E\0\u{4}\0\u{14}" "/p/tsconfig.json${config_dir}${config_dir}//x/../y/a//a/${config_dir}out./d/"
+    Answers "\u{1}\0\0\u{10}\0\u{4}\u{5}\u{10}\0\u{c}\0\u{e}\u{f}\u{1c}\0\u{15}\0\u{f}1\0\u{2}\0\u{f}3\0\u{3}\0\u{10}6\0\u{f}\0\u{11}E\0\u{4}\0\u{14}" "/p/tsconfig.json${configDir}${configDir}//x/../y/a//a/${configDir}out./d/"
     ((B "/p" gets gives 0 0 "include=/p/\nbase=/p\nrootDir=/p/x/../y/\nrootDir=/p/a\nrootDir=/a/\noutDir=/p/out\ndeclarationDir=/p/d\n")
     ∷ (O "/p/x.ts" gets gives 0 0 "")
     ∷ (O "/p/a/x.ts" gets gives 0 0 "")
@@ -1718,9 +1718,9 @@ pub book-seen-12 :
 unfolding tell
 book-seen-12 = refl
 
--- BEGIN "/tsconfig.json", FILES, file ".", INCLUDE, include "${config_dir}", base_url "${config_dir}", END
+-- BEGIN "/tsconfig.json", FILES, file ".", INCLUDE, include "${configDir}", baseUrl "${configDir}", END
 pub book-seen-13 :
-    Answers "\u{1}\0\0\u{e}\0\u{2}\u{3}\u{e}\0\u{1}\0\u{4}\u{5}\u{f}\0\u{c}\0\t\u{f}\0\u{c}\0\u{14}" "/tsconfig.json.${config_dir}"
+    Answers "\u{1}\0\0\u{e}\0\u{2}\u{3}\u{e}\0\u{1}\0\u{4}\u{5}\u{f}\0\u{c}\0\t\u{f}\0\u{c}\0\u{14}" "/tsconfig.json.${configDir}"
     ((B "/" gets gives 0 0 "files=/\ninclude=/\nbaseUrl=/\nbase=/\n")
     ∷ (O "/" gets gives 0 0 "")
     ∷ (O "/x.ts" gets gives 0 0 "")
@@ -1899,7 +1899,7 @@ unfolding tell
 book-seen-28 = refl
 
 -- BEGIN "/a/x/tsconfig.json", extends "../y/b.json", PATHS, END, BEGIN "/a/y/b.json", END, BEGIN "/a/z/tsconfig.json", extends "../y/c", PATHS, key "k",
--- target "t", END, BEGIN "/a/y/c.json", base_url "u", END, BEGIN "/a/w/tsconfig.json", extends "../y/b", extends "../y/c", END
+-- target "t", END, BEGIN "/a/y/c.json", baseUrl "u", END, BEGIN "/a/w/tsconfig.json", extends "../y/b", extends "../y/c", END
 pub book-seen-29 :
     Answers "\u{1}\0\0\u{12}\0\u{8}\u{12}\0\u{b}\0\n\u{14}\u{1}\u{1d}\0\u{b}\0\u{14}\u{1}(\0\u{12}\0\u{8}:\0\u{6}\0\n\u{b}@\0\u{1}\0\u{c}A\0\u{1}\0\u{14}\u{1}B\0\u{b}\0\tM\0\u{1}\0\u{14}\u{1}N\0\u{12}\0\u{8}`\0\u{6}\0\u{8}:\0\u{6}\0\u{14}" "/a/x/tsconfig.json../y/b.json/a/y/b.json/a/z/tsconfig.json../y/ckt/a/y/c.jsonu/a/w/tsconfig.json../y/b"
     ((B "/a/x" gets gives 0 1 "base=/a/x\npaths\n")
@@ -1912,7 +1912,7 @@ pub book-seen-29 :
 unfolding tell
 book-seen-29 = refl
 
--- BEGIN "/p/tsconfig.json", base_url "u", PATHS, key "ab", key "a*", target "w/*", key "abc*", key "a*c", target "v/*", key "x*b*", target "*/*", key
+-- BEGIN "/p/tsconfig.json", baseUrl "u", PATHS, key "ab", key "a*", target "w/*", key "abc*", key "a*c", target "v/*", key "x*b*", target "*/*", key
 -- "*", target "all/*", key "./x", target "dot", key ".*", target "dots", END
 pub book-seen-30 :
     Answers "\u{1}\0\0\u{10}\0\t\u{10}\0\u{1}\0\n\u{b}\u{11}\0\u{2}\0\u{b}\u{13}\0\u{2}\0\u{c}\u{15}\0\u{3}\0\u{b}\u{18}\0\u{4}\0\u{b}\u{1c}\0\u{3}\0\u{c}\u{1f}\0\u{3}\0\u{b}\"\0\u{4}\0\u{c}&\0\u{3}\0\u{b})\0\u{1}\0\u{c}*\0\u{5}\0\u{b}/\0\u{3}\0\u{c}2\0\u{3}\0\u{b}5\0\u{2}\0\u{c}7\0\u{4}\0\u{14}" "/p/tsconfig.jsonuaba*w/*abc*a*cv/*x*b**/**all/*./xdot.*dots"
@@ -1943,7 +1943,7 @@ pub book-seen-31 :
 unfolding tell
 book-seen-31 = refl
 
--- BEGIN "/p/tsconfig.json", ROOTDIRS, root_dir "/p/src", root_dir "/p/src/", root_dir "/p/gen", root_dir "/p/gen/", END
+-- BEGIN "/p/tsconfig.json", ROOTDIRS, rootDir "/p/src", rootDir "/p/src/", rootDir "/p/gen", rootDir "/p/gen/", END
 pub book-seen-32 :
     Answers "\u{1}\0\0\u{10}\0\u{e}\u{f}\u{10}\0\u{6}\0\u{f}\u{16}\0\u{7}\0\u{f}\u{1d}\0\u{6}\0\u{f}#\0\u{7}\0\u{14}" "/p/tsconfig.json/p/src/p/src//p/gen/p/gen/"
     ((T "/p" "/p/src" "./x" gets gives 3 0 "\u{8}\0/p/src/x\u{8}\0/p/gen/x\u{8}\0/p/gen/x")
@@ -1953,7 +1953,7 @@ pub book-seen-32 :
 unfolding tell
 book-seen-32 = refl
 
--- BEGIN "/p/tsconfig.json", ROOTDIRS, root_dir "", root_dir "/q", END
+-- BEGIN "/p/tsconfig.json", ROOTDIRS, rootDir "", rootDir "/q", END
 pub book-seen-33 :
     Answers "\u{1}\0\0\u{10}\0\u{e}\u{f}\u{10}\0\0\0\u{f}\u{10}\0\u{2}\0\u{14}" "/p/tsconfig.json/q"
     ((T "/p" "/q" "./x" gets gives 2 0 "\u{4}\0/q/x\u{1}\0x")
@@ -1964,7 +1964,7 @@ pub book-seen-33 :
 unfolding tell
 book-seen-33 = refl
 
--- BEGIN "/p/tsconfig.json", ROOTDIRS, root_dir "", root_dir "/", END
+-- BEGIN "/p/tsconfig.json", ROOTDIRS, rootDir "", rootDir "/", END
 pub book-seen-34 :
     Answers "\u{1}\0\0\u{10}\0\u{e}\u{f}\u{10}\0\0\0\u{f}\u{10}\0\u{1}\0\u{14}" "/p/tsconfig.json/"
     ((T "/p" "/q" "./x" gets gives 2 0 "\u{4}\0/q/x\u{3}\0q/x")
@@ -1974,9 +1974,9 @@ pub book-seen-34 :
 unfolding tell
 book-seen-34 = refl
 
--- BEGIN "/p/tsconfig.json", ROOTDIRS, root_dir "${config_dir}/../q", root_dir "/q/./r", root_dir "/q//s", END
+-- BEGIN "/p/tsconfig.json", ROOTDIRS, rootDir "${configDir}/../q", rootDir "/q/./r", rootDir "/q//s", END
 pub book-seen-35 :
-    Answers "\u{1}\0\0\u{10}\0\u{e}\u{f}\u{10}\0\u{11}\0\u{f}!\0\u{6}\0\u{f}'\0\u{5}\0\u{14}" "/p/tsconfig.json${config_dir}/../q/q/./r/q//s"
+    Answers "\u{1}\0\0\u{10}\0\u{e}\u{f}\u{10}\0\u{11}\0\u{f}!\0\u{6}\0\u{f}'\0\u{5}\0\u{14}" "/p/tsconfig.json${configDir}/../q/q/./r/q//s"
     ((T "/p" "/q" "./x" gets gives 0 0 "")
     ∷ (T "/p" "/q/r" "./x" gets gives 3 0 "\u{6}\0/q/r/x\t\0/p/../q/x\u{7}\0/q//s/x")
     ∷ (T "/p" "/q/s" "./x" gets gives 3 0 "\u{6}\0/q/s/x\t\0/p/../q/x\u{8}\0/q/./r/x")
@@ -2113,13 +2113,13 @@ pub book-seen-45 :
 unfolding tell
 book-seen-45 = refl
 
--- BEGIN "/a/base.json", FILES, file "f.ts", INCLUDE, include "src", EXCLUDE, exclude "src/x", base_url "u", PATHS, key "k", target "t", target
--- "${config_dir}/t", ROOTDIRS, root_dir "src", root_dir "${config_dir}/g", out_dir "o", declaration_dir "${config_dir}", flag 0 1, flag 10 0, text 0 "", text 6
--- "${config_dir}", END, BEGIN "/a/b/tsconfig.json", extends "../base", END
+-- BEGIN "/a/base.json", FILES, file "f.ts", INCLUDE, include "src", EXCLUDE, exclude "src/x", baseUrl "u", PATHS, key "k", target "t", target
+-- "${configDir}/t", ROOTDIRS, rootDir "src", rootDir "${configDir}/g", outDir "o", declarationDir "${configDir}", flag 0 1, flag 10 0, text 0 "", text 6
+-- "${configDir}", END, BEGIN "/a/b/tsconfig.json", extends "../base", END
 pub book-seen-46 :
-    Answers "\u{1}\0\0\u{c}\0\u{2}\u{3}\u{c}\0\u{4}\0\u{4}\u{5}\u{10}\0\u{3}\0\u{6}\u{7}\u{13}\0\u{5}\0\t\u{18}\0\u{1}\0\n\u{b}\u{19}\0\u{1}\0\u{c}\u{1a}\0\u{1}\0\u{c}\u{1b}\0\u{e}\0\u{e}\u{f}\u{10}\0\u{3}\0\u{f})\0\u{e}\0\u{10}7\0\u{1}\0\u{11}8\0\u{c}\0\u{12}\0\u{1}\u{12}\n\0\u{13}\0D\0\0\0\u{13}\u{6}8\0\u{c}\0\u{14}\u{1}D\0\u{12}\0\u{8}V\0\u{7}\0\u{14}" "/a/base.jsonf.tssrcsrc/xukt${config_dir}/t${config_dir}/go${config_dir}/a/b/tsconfig.json../base"
-    ((B "/a/b" gets gives 1 1 "files=/a/b/f.ts\ninclude=/a/b/src\nexclude=/a/b/src/x\nbaseUrl=/a/b/u\nbase=/a/u\nkey=k\ntarget=/a/u/t\ntarget=/a/b/t\nrootDir=/a/src\nrootDir=/a/b/g\noutDir=/a/o\ndeclarationDir=/a/b/\nflag 0=1\nflag 10=0\ntext 0=\ntext 6=${config_dir}\n")
-    ∷ (B "/a/base" gets gives 0 0 "files=/a/f.ts\ninclude=/a/src\nexclude=/a/src/x\nbaseUrl=/a/u\nbase=/a/u\nkey=k\ntarget=/a/u/t\ntarget=/a/t\nrootDir=/a/src\nrootDir=/a/g\noutDir=/a/o\ndeclarationDir=/a/\nflag 0=1\nflag 10=0\ntext 0=\ntext 6=${config_dir}\n")
+    Answers "\u{1}\0\0\u{c}\0\u{2}\u{3}\u{c}\0\u{4}\0\u{4}\u{5}\u{10}\0\u{3}\0\u{6}\u{7}\u{13}\0\u{5}\0\t\u{18}\0\u{1}\0\n\u{b}\u{19}\0\u{1}\0\u{c}\u{1a}\0\u{1}\0\u{c}\u{1b}\0\u{e}\0\u{e}\u{f}\u{10}\0\u{3}\0\u{f})\0\u{e}\0\u{10}7\0\u{1}\0\u{11}8\0\u{c}\0\u{12}\0\u{1}\u{12}\n\0\u{13}\0D\0\0\0\u{13}\u{6}8\0\u{c}\0\u{14}\u{1}D\0\u{12}\0\u{8}V\0\u{7}\0\u{14}" "/a/base.jsonf.tssrcsrc/xukt${configDir}/t${configDir}/go${configDir}/a/b/tsconfig.json../base"
+    ((B "/a/b" gets gives 1 1 "files=/a/b/f.ts\ninclude=/a/b/src\nexclude=/a/b/src/x\nbaseUrl=/a/b/u\nbase=/a/u\nkey=k\ntarget=/a/u/t\ntarget=/a/b/t\nrootDir=/a/src\nrootDir=/a/b/g\noutDir=/a/o\ndeclarationDir=/a/b/\nflag 0=1\nflag 10=0\ntext 0=\ntext 6=${configDir}\n")
+    ∷ (B "/a/base" gets gives 0 0 "files=/a/f.ts\ninclude=/a/src\nexclude=/a/src/x\nbaseUrl=/a/u\nbase=/a/u\nkey=k\ntarget=/a/u/t\ntarget=/a/t\nrootDir=/a/src\nrootDir=/a/g\noutDir=/a/o\ndeclarationDir=/a/\nflag 0=1\nflag 10=0\ntext 0=\ntext 6=${configDir}\n")
     ∷ (O "/a/b/src/x.ts" gets gives 1 1 "")
     ∷ (O "/a/b/src/x/y.ts" gets gives 65535 65535 "")
     ∷ (O "/a/b/f.ts" gets gives 1 1 "")
@@ -2180,7 +2180,7 @@ pub book-seen-49 :
 unfolding tell
 book-seen-49 = refl
 
--- BEGIN "/p/tsconfig.json", FILES, file "", INCLUDE, include "", include "", EXCLUDE, exclude "", ROOTDIRS, root_dir "", out_dir "", declaration_dir "",
+-- BEGIN "/p/tsconfig.json", FILES, file "", INCLUDE, include "", include "", EXCLUDE, exclude "", ROOTDIRS, rootDir "", outDir "", declarationDir "",
 -- text 1 "", END
 pub book-seen-50 :
     Answers "\u{1}\0\0\u{10}\0\u{2}\u{3}\u{10}\0\0\0\u{4}\u{5}\u{10}\0\0\0\u{5}\u{10}\0\0\0\u{6}\u{7}\u{10}\0\0\0\u{e}\u{f}\u{10}\0\0\0\u{10}\u{10}\0\0\0\u{11}\u{10}\0\0\0\u{13}\u{1}\u{10}\0\0\0\u{14}" "/p/tsconfig.json"
@@ -2191,7 +2191,7 @@ pub book-seen-50 :
 unfolding tell
 book-seen-50 = refl
 
--- BEGIN "/p/tsconfig.json", ROOTDIRS, root_dir "/p////", root_dir "/p/src", root_dir "/g", END
+-- BEGIN "/p/tsconfig.json", ROOTDIRS, rootDir "/p////", rootDir "/p/src", rootDir "/g", END
 pub book-seen-51 :
     Answers "\u{1}\0\0\u{10}\0\u{e}\u{f}\u{10}\0\u{6}\0\u{f}\u{16}\0\u{6}\0\u{f}\u{1c}\0\u{2}\0\u{14}" "/p/tsconfig.json/p/////p/src/g"
     ((T "/p" "/p/src" "./x" gets gives 3 0 "\u{8}\0/p/src/x\u{c}\0/p/src/src/x\u{8}\0/g/src/x")
@@ -2201,7 +2201,7 @@ pub book-seen-51 :
 unfolding tell
 book-seen-51 = refl
 
--- BEGIN "/p/tsconfig.json", ROOTDIRS, root_dir "/p/src", root_dir "/p////", root_dir "/g", END
+-- BEGIN "/p/tsconfig.json", ROOTDIRS, rootDir "/p/src", rootDir "/p////", rootDir "/g", END
 pub book-seen-52 :
     Answers "\u{1}\0\0\u{10}\0\u{e}\u{f}\u{10}\0\u{6}\0\u{f}\u{16}\0\u{6}\0\u{f}\u{1c}\0\u{2}\0\u{14}" "/p/tsconfig.json/p/src/p/////g"
     ((T "/p" "/p/src" "./x" gets gives 3 0 "\u{8}\0/p/src/x\u{7}\0/p////x\u{4}\0/g/x")
@@ -2210,10 +2210,10 @@ pub book-seen-52 :
 unfolding tell
 book-seen-52 = refl
 
--- BEGIN "/p/tsconfig.json", INCLUDE, include "${config_dir}/z", reference "./lib", reference "./app", END, BEGIN "/p/lib/tsconfig.json", END, BEGIN
--- "/p/app/tsconfig.json", FILES, file "f.ts", INCLUDE, include "src", include "${config_dir}/t", END
+-- BEGIN "/p/tsconfig.json", INCLUDE, include "${configDir}/z", reference "./lib", reference "./app", END, BEGIN "/p/lib/tsconfig.json", END, BEGIN
+-- "/p/app/tsconfig.json", FILES, file "f.ts", INCLUDE, include "src", include "${configDir}/t", END
 pub book-seen-53 :
-    Answers "\u{1}\0\0\u{10}\0\u{4}\u{5}\u{10}\0\u{e}\0\r\u{1e}\0\u{5}\0\r#\0\u{5}\0\u{14}\u{1}(\0\u{14}\0\u{14}\u{1}<\0\u{14}\0\u{2}\u{3}P\0\u{4}\0\u{4}\u{5}T\0\u{3}\0\u{5}W\0\u{e}\0\u{14}" "/p/tsconfig.json${config_dir}/z./lib./app/p/lib/tsconfig.json/p/app/tsconfig.jsonf.tssrc${config_dir}/t"
+    Answers "\u{1}\0\0\u{10}\0\u{4}\u{5}\u{10}\0\u{e}\0\r\u{1e}\0\u{5}\0\r#\0\u{5}\0\u{14}\u{1}(\0\u{14}\0\u{14}\u{1}<\0\u{14}\0\u{2}\u{3}P\0\u{4}\0\u{4}\u{5}T\0\u{3}\0\u{5}W\0\u{e}\0\u{14}" "/p/tsconfig.json${configDir}/z./lib./app/p/lib/tsconfig.json/p/app/tsconfig.jsonf.tssrc${configDir}/t"
     ((O "/p/lib/x.ts" gets gives 1 1 "")
     ∷ (O "/p/y.ts" gets gives 65535 65535 "")
     ∷ (O "/p/app/src/x.ts" gets gives 2 2 "")
@@ -2436,7 +2436,7 @@ pub book-sizes-references-17 :
 unfolding tell
 book-sizes-references-17 = refl
 
--- BEGIN "/a", ROOTDIRS, root_dir "x", root_dir "x", root_dir "x", root_dir "x", root_dir "x", root_dir "x", root_dir "x", root_dir "x", END
+-- BEGIN "/a", ROOTDIRS, rootDir "x", rootDir "x", rootDir "x", rootDir "x", rootDir "x", rootDir "x", rootDir "x", rootDir "x", END
 pub book-sizes-root-dirs-8 :
     Answers "\u{1}\0\0\u{2}\0\u{e}\u{f}\u{2}\0\u{1}\0\u{f}\u{2}\0\u{1}\0\u{f}\u{2}\0\u{1}\0\u{f}\u{2}\0\u{1}\0\u{f}\u{2}\0\u{1}\0\u{f}\u{2}\0\u{1}\0\u{f}\u{2}\0\u{1}\0\u{f}\u{2}\0\u{1}\0\u{14}" "/ax"
     ((B "relative" gets refuses 7 0)
@@ -2444,7 +2444,7 @@ pub book-sizes-root-dirs-8 :
 unfolding tell
 book-sizes-root-dirs-8 = refl
 
--- BEGIN "/a", ROOTDIRS, root_dir "x", root_dir "x", root_dir "x", root_dir "x", root_dir "x", root_dir "x", root_dir "x", root_dir "x", root_dir "x", END
+-- BEGIN "/a", ROOTDIRS, rootDir "x", rootDir "x", rootDir "x", rootDir "x", rootDir "x", rootDir "x", rootDir "x", rootDir "x", rootDir "x", END
 pub book-sizes-root-dirs-9 :
     Answers "\u{1}\0\0\u{2}\0\u{e}\u{f}\u{2}\0\u{1}\0\u{f}\u{2}\0\u{1}\0\u{f}\u{2}\0\u{1}\0\u{f}\u{2}\0\u{1}\0\u{f}\u{2}\0\u{1}\0\u{f}\u{2}\0\u{1}\0\u{f}\u{2}\0\u{1}\0\u{f}\u{2}\0\u{1}\0\u{f}\u{2}\0\u{1}\0\u{14}" "/ax"
     ((B "/a" gets refuses 5 46)

@@ -101,7 +101,7 @@ answer (extension_of p) = of_option (extension (bytes p))
 answer (line_of ls) = of_line (book (commands_of ls) (text_of_lem ls))
 answer (prints ls qs) = printed_all ls qs ∷ []
 
--- A extends B, C, with no base_url or paths
+-- A extends B, C, with no baseUrl or paths
 abbrev pub abc : List Line
 abc = at "/a/A.json" (extends ("../b/B" ∷ "../c/C" ∷ [])) ++ (at "/b/B.json" [] ++ at "/c/C.json" [])
 
@@ -130,7 +130,7 @@ table =
     ∷ (path "/a" "" gets "" ∷ [])
     ∷ (path "/" "../z" gets "/z" ∷ [])
     ∷ (path "/a" "/u/../v" gets "/u/../v" ∷ [])
-    ∷ (built_in "/p" "${config_dir}" gets "/p/" ∷ [])
+    ∷ (built_in "/p" "${configDir}" gets "/p/" ∷ [])
     ∷ (lies "/ab" "/a" gets "no" ∷ [])
     ∷ (chosen ("*" ∷ "a*" ∷ []) "abc" gets "a*" ∷ "bc" ∷ [])
     ∷ (chosen ("a*" ∷ "a*c" ∷ []) "abc" gets "a*" ∷ "bc" ∷ [])

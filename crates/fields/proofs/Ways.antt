@@ -76,7 +76,7 @@ module _ (commands text : Text) (f : Found) where
     unfolding list_at
     list_at_lem name dir op = rw e refl
 
-    pub roots_at_lem : (dir : Text) → roots_at commands text dir f ≡ items (bytes "root_dir") (built_roots commands text dir rec)
+    pub roots_at_lem : (dir : Text) → roots_at commands text dir f ≡ items (bytes "rootDir") (built_roots commands text dir rec)
     unfolding roots_at
     roots_at_lem dir = rw e refl
 
@@ -89,7 +89,7 @@ module _ (commands text : Text) (f : Found) where
       unfolding url_at if_named
       url_missing m = rw (e, single_missing text command.base_url commands rec (sym m ∙ told)) refl
 
-      pub url_got : {c : Cmd} {next : ℕ} → r ≡ At c next → (v : Text) → v ≡ text_of text c → url_at commands text dir f ≡ row (bytes "base_url") (adjusted dir dir v)
+      pub url_got : {c : Cmd} {next : ℕ} → r ≡ At c next → (v : Text) → v ≡ text_of text c → url_at commands text dir f ≡ row (bytes "baseUrl") (adjusted dir dir v)
       unfolding url_at if_named
       url_got {c} {next} g v q = rw (e, single_got text command.base_url commands rec c next (sym g ∙ told), q) refl
 
@@ -107,5 +107,5 @@ pub own_short : (commands text : Text) (rec : ℕ) (own : Text) → own ≡ dir_
 own_short commands text rec own e h = omega (arith, ap length e, dir_short text (record_at commands rec) h)
 
 -- its root dirs
-pub roots_own : (commands text dir : Text) (rec : ℕ) (own : Text) → own ≡ dir_of text (record_at commands rec) → rows (bytes "root_dir") (built_roots commands text dir rec) ≡ rows (bytes "root_dir") (map (built_place dir own) (strings text command.root_dir (record_at commands rec)))
+pub roots_own : (commands text dir : Text) (rec : ℕ) (own : Text) → own ≡ dir_of text (record_at commands rec) → rows (bytes "rootDir") (built_roots commands text dir rec) ≡ rows (bytes "rootDir") (map (built_place dir own) (strings text command.root_dir (record_at commands rec)))
 roots_own commands text dir rec own e = rw e refl

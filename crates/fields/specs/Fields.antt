@@ -23,17 +23,17 @@ module _ (commands text : Text) where
   list_at name dir op Nothing = []
   list_at name dir op (At rec) = items name (built_strings commands text dir op rec)
 
-  -- the lines of root_dirs
+  -- the lines of rootDirs
   unfoldable pub roots_at : Text → Found → Text
   roots_at dir Nothing = []
-  roots_at dir (At rec) = items (bytes "root_dir") (built_roots dir rec)
+  roots_at dir (At rec) = items (bytes "rootDir") (built_roots dir rec)
 
-  -- the line of base_url
+  -- the line of baseUrl
   unfoldable pub url_at : Text → Found → Text
   url_at dir Nothing = []
-  url_at dir (At rec) = if_named (row (bytes "base_url")) (Option.map (adjusted dir dir) (single text command.base_url (record_at commands rec)))
+  url_at dir (At rec) = if_named (row (bytes "baseUrl")) (Option.map (adjusted dir dir) (single text command.base_url (record_at commands rec)))
 
-  -- the line of out_dir or declaration_dir
+  -- the line of outDir or declarationDir
   unfoldable pub place_at : Text → Text → ℕ → Found → Text
   place_at name dir op Nothing = []
   place_at name dir op (At rec) =

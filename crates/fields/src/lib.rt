@@ -43,8 +43,8 @@ fn put_root_items(
     rec: usize,
     dir: &[u8],
 ) -> usize
-    requires { Room at (items (bytes "root_dir") (built_roots commands.now text.now dir.now rec)) × (All (Good text.now) (record_at commands.now rec) × (length dir.now ≤ 512)) }
-    ensures { Emits (items (bytes "root_dir") (built_roots commands.now text.now dir.now rec)) out.old at out.new result }
+    requires { Room at (items (bytes "rootDir") (built_roots commands.now text.now dir.now rec)) × (All (Good text.now) (record_at commands.now rec) × (length dir.now ≤ 512)) }
+    ensures { Emits (items (bytes "rootDir") (built_roots commands.now text.now dir.now rec)) out.old at out.new result }
 {
     match next_item(commands, rec, ROOT_DIR) {
         Item::Missing => return put_line(out, at, b"rootDir"),

@@ -20,7 +20,7 @@ table =
     ∷ normal "/a" "" ""
     ∷ normal "/" "../z" "/z"
     ∷ normal "/a" "/u/../v" "/u/../v"
-    -- "`${config_dir}` built in `/p`: `/p/`"
+    -- "`${configDir}` built in `/p`: `/p/`"
     ∷ joins "/p" "" "/p/"
     ∷ joins "/" "" "/"
     ∷ joins "/p" "x/../y/" "/p/x/../y/"

@@ -21,7 +21,7 @@ valued v = 61 ∷ ended v
 abbrev pub built_key : Text → Text → Key → Key
 built_key dir base k = record { key = k.key; targets = map (adjusted dir base) k.targets }
 
--- a root dir, out_dir or declaration_dir of a record whose directory is own, as built
+-- a root dir, outDir or declarationDir of a record whose directory is own, as built
 abbrev pub built_place : Text → Text → Text → Text
 built_place dir own s = substituted dir (placed own s)
 

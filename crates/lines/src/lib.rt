@@ -167,8 +167,8 @@ pub fn put_root_rows(
     dir: &[u8],
     own: &[u8],
 ) -> usize
-    requires { Room at (rows (bytes "root_dir") (map (built_place dir.now own.now) (strings text.now command.root_dir (record_at commands.now rec)))) × (All (Good text.now) (record_at commands.now rec) × ((length dir.now ≤ 512) × (length own.now ≤ 512))) }
-    ensures { Emits (rows (bytes "root_dir") (map (built_place dir.now own.now) (strings text.now command.root_dir (record_at commands.now rec)))) out.old at out.new result }
+    requires { Room at (rows (bytes "rootDir") (map (built_place dir.now own.now) (strings text.now command.root_dir (record_at commands.now rec)))) × (All (Good text.now) (record_at commands.now rec) × ((length dir.now ≤ 512) × (length own.now ≤ 512))) }
+    ensures { Emits (rows (bytes "rootDir") (map (built_place dir.now own.now) (strings text.now command.root_dir (record_at commands.now rec)))) out.old at out.new result }
 {
     let mut k = at;
     let mut to = rec;

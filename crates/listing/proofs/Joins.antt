@@ -17,37 +17,37 @@ use Rattle.listing.specs.Parts.{places_part, mapping_part, base_part, whole_part
 use Rattle.listing.proofs.Turns.{turn_first, turn_rest, turn_both}
 
 module _ (commands : Text) (begins suppliers : List ℕ) (text : Text) (dir : Text) (at : ℕ) (h : Room at (places_part commands begins suppliers text dir)) where
-  places_all : Room at ((roots_at commands text dir (begin_at begins suppliers 5)) ++ ((place_at commands text (bytes "out_dir") dir command.out_dir (begin_at begins suppliers 6)) ++ ((place_at commands text (bytes "declaration_dir") dir command.declaration_dir (begin_at begins suppliers 7)) ++ (options_part commands begins suppliers text))))
+  places_all : Room at ((roots_at commands text dir (begin_at begins suppliers 5)) ++ ((place_at commands text (bytes "outDir") dir command.out_dir (begin_at begins suppliers 6)) ++ ((place_at commands text (bytes "declarationDir") dir command.declaration_dir (begin_at begins suppliers 7)) ++ (options_part commands begins suppliers text))))
   unfolding places_part
   places_all = h
 
   module _ (f0 : Found) (e0 : f0 ≡ begin_at begins suppliers 5) where
     pub places_1 : Room at (roots_at commands text dir f0)
-    places_1 = turn_first (roots_at commands text dir) ((place_at commands text (bytes "out_dir") dir command.out_dir (begin_at begins suppliers 6)) ++ ((place_at commands text (bytes "declaration_dir") dir command.declaration_dir (begin_at begins suppliers 7)) ++ (options_part commands begins suppliers text))) (begin_at begins suppliers 5) f0 e0 at places_all
+    places_1 = turn_first (roots_at commands text dir) ((place_at commands text (bytes "outDir") dir command.out_dir (begin_at begins suppliers 6)) ++ ((place_at commands text (bytes "declarationDir") dir command.declaration_dir (begin_at begins suppliers 7)) ++ (options_part commands begins suppliers text))) (begin_at begins suppliers 5) f0 e0 at places_all
 
     module _ (o0 : Text) (o1 : Text) (a1 : ℕ) (p1 : Emits (roots_at commands text dir f0) o0 at o1 a1) where
-      places_after_1 : Room a1 ((place_at commands text (bytes "out_dir") dir command.out_dir (begin_at begins suppliers 6)) ++ ((place_at commands text (bytes "declaration_dir") dir command.declaration_dir (begin_at begins suppliers 7)) ++ (options_part commands begins suppliers text)))
-      places_after_1 = turn_rest (roots_at commands text dir) ((place_at commands text (bytes "out_dir") dir command.out_dir (begin_at begins suppliers 6)) ++ ((place_at commands text (bytes "declaration_dir") dir command.declaration_dir (begin_at begins suppliers 7)) ++ (options_part commands begins suppliers text))) (begin_at begins suppliers 5) f0 e0 at o0 o1 a1 places_all p1
+      places_after_1 : Room a1 ((place_at commands text (bytes "outDir") dir command.out_dir (begin_at begins suppliers 6)) ++ ((place_at commands text (bytes "declarationDir") dir command.declaration_dir (begin_at begins suppliers 7)) ++ (options_part commands begins suppliers text)))
+      places_after_1 = turn_rest (roots_at commands text dir) ((place_at commands text (bytes "outDir") dir command.out_dir (begin_at begins suppliers 6)) ++ ((place_at commands text (bytes "declarationDir") dir command.declaration_dir (begin_at begins suppliers 7)) ++ (options_part commands begins suppliers text))) (begin_at begins suppliers 5) f0 e0 at o0 o1 a1 places_all p1
 
       module _ (f1 : Found) (e1 : f1 ≡ begin_at begins suppliers 6) where
-        pub places_2 : Room a1 (place_at commands text (bytes "out_dir") dir command.out_dir f1)
-        places_2 = turn_first (place_at commands text (bytes "out_dir") dir command.out_dir) ((place_at commands text (bytes "declaration_dir") dir command.declaration_dir (begin_at begins suppliers 7)) ++ (options_part commands begins suppliers text)) (begin_at begins suppliers 6) f1 e1 a1 places_after_1
+        pub places_2 : Room a1 (place_at commands text (bytes "outDir") dir command.out_dir f1)
+        places_2 = turn_first (place_at commands text (bytes "outDir") dir command.out_dir) ((place_at commands text (bytes "declarationDir") dir command.declaration_dir (begin_at begins suppliers 7)) ++ (options_part commands begins suppliers text)) (begin_at begins suppliers 6) f1 e1 a1 places_after_1
 
-        module _ (o2 : Text) (a2 : ℕ) (p2 : Emits (place_at commands text (bytes "out_dir") dir command.out_dir f1) o1 a1 o2 a2) where
-          places_after_2 : Room a2 ((place_at commands text (bytes "declaration_dir") dir command.declaration_dir (begin_at begins suppliers 7)) ++ (options_part commands begins suppliers text))
-          places_after_2 = turn_rest (place_at commands text (bytes "out_dir") dir command.out_dir) ((place_at commands text (bytes "declaration_dir") dir command.declaration_dir (begin_at begins suppliers 7)) ++ (options_part commands begins suppliers text)) (begin_at begins suppliers 6) f1 e1 a1 o1 o2 a2 places_after_1 p2
+        module _ (o2 : Text) (a2 : ℕ) (p2 : Emits (place_at commands text (bytes "outDir") dir command.out_dir f1) o1 a1 o2 a2) where
+          places_after_2 : Room a2 ((place_at commands text (bytes "declarationDir") dir command.declaration_dir (begin_at begins suppliers 7)) ++ (options_part commands begins suppliers text))
+          places_after_2 = turn_rest (place_at commands text (bytes "outDir") dir command.out_dir) ((place_at commands text (bytes "declarationDir") dir command.declaration_dir (begin_at begins suppliers 7)) ++ (options_part commands begins suppliers text)) (begin_at begins suppliers 6) f1 e1 a1 o1 o2 a2 places_after_1 p2
 
           module _ (f2 : Found) (e2 : f2 ≡ begin_at begins suppliers 7) where
-            pub places_3 : Room a2 (place_at commands text (bytes "declaration_dir") dir command.declaration_dir f2)
-            places_3 = turn_first (place_at commands text (bytes "declaration_dir") dir command.declaration_dir) (options_part commands begins suppliers text) (begin_at begins suppliers 7) f2 e2 a2 places_after_2
+            pub places_3 : Room a2 (place_at commands text (bytes "declarationDir") dir command.declaration_dir f2)
+            places_3 = turn_first (place_at commands text (bytes "declarationDir") dir command.declaration_dir) (options_part commands begins suppliers text) (begin_at begins suppliers 7) f2 e2 a2 places_after_2
 
-            module _ (o3 : Text) (a3 : ℕ) (p3 : Emits (place_at commands text (bytes "declaration_dir") dir command.declaration_dir f2) o2 a2 o3 a3) where
+            module _ (o3 : Text) (a3 : ℕ) (p3 : Emits (place_at commands text (bytes "declarationDir") dir command.declaration_dir f2) o2 a2 o3 a3) where
               pub places_4 : Room a3 (options_part commands begins suppliers text)
-              places_4 = turn_rest (place_at commands text (bytes "declaration_dir") dir command.declaration_dir) (options_part commands begins suppliers text) (begin_at begins suppliers 7) f2 e2 a2 o2 o3 a3 places_after_2 p3
+              places_4 = turn_rest (place_at commands text (bytes "declarationDir") dir command.declaration_dir) (options_part commands begins suppliers text) (begin_at begins suppliers 7) f2 e2 a2 o2 o3 a3 places_after_2 p3
 
               pub places_end : (v : Text) (q : ℕ) → Emits (options_part commands begins suppliers text) o3 a3 v q → Emits (places_part commands begins suppliers text dir) o0 at v q
               unfolding places_part
-              places_end v q z = turn_both (roots_at commands text dir) ((place_at commands text (bytes "out_dir") dir command.out_dir (begin_at begins suppliers 6)) ++ ((place_at commands text (bytes "declaration_dir") dir command.declaration_dir (begin_at begins suppliers 7)) ++ (options_part commands begins suppliers text))) (begin_at begins suppliers 5) f0 e0 at o0 o1 v a1 q p1 (turn_both (place_at commands text (bytes "out_dir") dir command.out_dir) ((place_at commands text (bytes "declaration_dir") dir command.declaration_dir (begin_at begins suppliers 7)) ++ (options_part commands begins suppliers text)) (begin_at begins suppliers 6) f1 e1 a1 o1 o2 v a2 q p2 (turn_both (place_at commands text (bytes "declaration_dir") dir command.declaration_dir) (options_part commands begins suppliers text) (begin_at begins suppliers 7) f2 e2 a2 o2 o3 v a3 q p3 z))
+              places_end v q z = turn_both (roots_at commands text dir) ((place_at commands text (bytes "outDir") dir command.out_dir (begin_at begins suppliers 6)) ++ ((place_at commands text (bytes "declarationDir") dir command.declaration_dir (begin_at begins suppliers 7)) ++ (options_part commands begins suppliers text))) (begin_at begins suppliers 5) f0 e0 at o0 o1 v a1 q p1 (turn_both (place_at commands text (bytes "outDir") dir command.out_dir) ((place_at commands text (bytes "declarationDir") dir command.declaration_dir (begin_at begins suppliers 7)) ++ (options_part commands begins suppliers text)) (begin_at begins suppliers 6) f1 e1 a1 o1 o2 v a2 q p2 (turn_both (place_at commands text (bytes "declarationDir") dir command.declaration_dir) (options_part commands begins suppliers text) (begin_at begins suppliers 7) f2 e2 a2 o2 o3 v a3 q p3 z))
 
 module _ (commands : Text) (begins suppliers : List ℕ) (text : Text) (dir base : Text) (rec : ℕ) (at : ℕ) (h : Room at (mapping_part commands begins suppliers text dir base rec)) where
   rest_all : Room at ((mapping_at commands text dir base (begin_at begins suppliers 4)) ++ ((rows (bytes "reference") (strings text command.reference (record_at commands rec))) ++ (places_part commands begins suppliers text dir)))

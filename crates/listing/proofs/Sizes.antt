@@ -147,12 +147,12 @@ module _ (commands text : Text) (few : length commands ≤ 32768) where
     roots_size Nothing h = omega arith
     roots_size (At rec) h =
         let own = dir_of text (record_at commands rec) in
-        omega (arith, items_length (bytes "root_dir") (built_roots commands text dir rec), rows_strings text (bytes "root_dir") (omega arith) (built_place dir own) (placed_small own (dir_short text (record_at commands rec) h)) command.root_dir (record_at commands rec) h, record_length commands rec, few)
+        omega (arith, items_length (bytes "rootDir") (built_roots commands text dir rec), rows_strings text (bytes "rootDir") (omega arith) (built_place dir own) (placed_small own (dir_short text (record_at commands rec) h)) command.root_dir (record_at commands rec) h, record_length commands rec, few)
 
     url_size : (f : Found) → GoodAt commands text f → length (url_at commands text dir f) ≤ 132000000
     unfolding url_at
     url_size Nothing h = omega arith
-    url_size (At rec) h = omega (arith, row_single text (bytes "base_url") (omega arith) (adjusted dir dir) adjusted_small command.base_url (record_at commands rec) h, record_length commands rec, few)
+    url_size (At rec) h = omega (arith, row_single text (bytes "baseUrl") (omega arith) (adjusted dir dir) adjusted_small command.base_url (record_at commands rec) h, record_length commands rec, few)
 
     place_size : (name : Text) → length name ≤ 20 → (op : ℕ) (f : Found) → GoodAt commands text f → length (place_at commands text name dir op f) ≤ 132000000
     unfolding place_at
@@ -214,8 +214,8 @@ module _ (commands text : Text) (begins suppliers : List ℕ) (few : length comm
     unfolding places_part
     places_size =
         let a = roots_at commands text dir (begin_at begins suppliers 5) in
-        let b = place_at commands text (bytes "out_dir") dir command.out_dir (begin_at begins suppliers 6) in
-        let c = place_at commands text (bytes "declaration_dir") dir command.declaration_dir (begin_at begins suppliers 7) in
+        let b = place_at commands text (bytes "outDir") dir command.out_dir (begin_at begins suppliers 6) in
+        let c = place_at commands text (bytes "declarationDir") dir command.declaration_dir (begin_at begins suppliers 7) in
         let d = options_part commands begins suppliers text in
         omega (
           arith,
@@ -224,8 +224,8 @@ module _ (commands text : Text) (begins suppliers : List ℕ) (few : length comm
           length-append c d,
           options_size,
           roots_size commands text few dir sd (begin_at begins suppliers 5) (lent.good 5 (omega arith)),
-          place_size commands text few dir sd (bytes "out_dir") (omega arith) command.out_dir (begin_at begins suppliers 6) (lent.good 6 (omega arith)),
-          place_size commands text few dir sd (bytes "declaration_dir") (omega arith) command.declaration_dir (begin_at begins suppliers 7) (lent.good 7 (omega arith)),
+          place_size commands text few dir sd (bytes "outDir") (omega arith) command.out_dir (begin_at begins suppliers 6) (lent.good 6 (omega arith)),
+          place_size commands text few dir sd (bytes "declarationDir") (omega arith) command.declaration_dir (begin_at begins suppliers 7) (lent.good 7 (omega arith)),
         )
 
     rest_size : length (mapping_part commands begins suppliers text dir base rec) ≤ 4500000000000

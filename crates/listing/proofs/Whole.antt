@@ -142,34 +142,34 @@ module _ (commands text : Text) (begins : List ℕ) (b : Records commands text b
     exclude_part Nothing e = ap (if_named (items (bytes "exclude"))) (none_at config.exclude e)
     exclude_part (At rec) e = ap (if_named (items (bytes "exclude"))) (plain_at config.exclude refl rec e ∙ ap (Option.map (built_value dir base config.exclude)) (listed_there text (index.record_at commands rec) command.exclude command.exclude_item (said_there config.exclude rec e)))
 
-    url_part : (x : Found) → x ≡ begin_at begins row 3 → if_named (listings.row (bytes "base_url")) (c.named config.base_url) ≡ url_at commands text dir x
+    url_part : (x : Found) → x ≡ begin_at begins row 3 → if_named (listings.row (bytes "baseUrl")) (c.named config.base_url) ≡ url_at commands text dir x
     unfolding if_named url_at slot plain said
-    url_part Nothing e = ap (if_named (listings.row (bytes "base_url"))) (none_at config.base_url e)
-    url_part (At rec) e = ap (if_named (listings.row (bytes "base_url"))) (plain_at config.base_url refl rec e ∙ built_url dir base (single text command.base_url (index.record_at commands rec)))
+    url_part Nothing e = ap (if_named (listings.row (bytes "baseUrl"))) (none_at config.base_url e)
+    url_part (At rec) e = ap (if_named (listings.row (bytes "baseUrl"))) (plain_at config.base_url refl rec e ∙ built_url dir base (single text command.base_url (index.record_at commands rec)))
 
     paths_part : (x : Found) → x ≡ begin_at begins row 4 → if_named listings.mapping (c.named config.paths) ≡ mapping_at commands text dir base x
     unfolding if_named mapping_at slot plain built_value said
     paths_part Nothing e = ap (if_named listings.mapping) (none_at config.paths e)
     paths_part (At rec) e = ap (if_named listings.mapping) (plain_at config.paths refl rec e ∙ ap (Option.map (built_value dir base config.paths)) (mapping_there text (index.record_at commands rec) (said_there config.paths rec e)))
 
-    roots_part : (x : Found) → x ≡ begin_at begins row 5 → if_named (items (bytes "root_dir")) (c.named config.root_dirs) ≡ roots_at commands text dir x
+    roots_part : (x : Found) → x ≡ begin_at begins row 5 → if_named (items (bytes "rootDir")) (c.named config.root_dirs) ≡ roots_at commands text dir x
     unfolding if_named roots_at slot built_value placed_value said
-    roots_part Nothing e = ap (if_named (items (bytes "root_dir"))) (none_at config.root_dirs e)
+    roots_part Nothing e = ap (if_named (items (bytes "rootDir"))) (none_at config.root_dirs e)
     roots_part (At rec) e =
         let r = index.record_at commands rec in
         let own = dir_of text r in
-        ap (if_named (items (bytes "root_dir"))) (some_at config.root_dirs rec e ∙ ap (λ (o : Option (List Text)). Option.map (built_value dir base config.root_dirs) (Option.map (placed_value own config.root_dirs) o)) (listed_there text r command.root_dirs command.root_dir (said_there config.root_dirs rec e)))
-        ∙ ap (items (bytes "root_dir")) (map_twice (placed own) (substituted dir) (strings text command.root_dir r))
+        ap (if_named (items (bytes "rootDir"))) (some_at config.root_dirs rec e ∙ ap (λ (o : Option (List Text)). Option.map (built_value dir base config.root_dirs) (Option.map (placed_value own config.root_dirs) o)) (listed_there text r command.root_dirs command.root_dir (said_there config.root_dirs rec e)))
+        ∙ ap (items (bytes "rootDir")) (map_twice (placed own) (substituted dir) (strings text command.root_dir r))
 
-    out_part : (x : Found) → x ≡ begin_at begins row 6 → if_named (listings.row (bytes "out_dir")) (c.named config.out_dir) ≡ place_at commands text (bytes "out_dir") dir command.out_dir x
+    out_part : (x : Found) → x ≡ begin_at begins row 6 → if_named (listings.row (bytes "outDir")) (c.named config.out_dir) ≡ place_at commands text (bytes "outDir") dir command.out_dir x
     unfolding if_named place_at slot said
-    out_part Nothing e = ap (if_named (listings.row (bytes "out_dir"))) (none_at config.out_dir e)
-    out_part (At rec) e = ap (if_named (listings.row (bytes "out_dir"))) (some_at config.out_dir rec e ∙ built_out dir base (dir_of text (index.record_at commands rec)) (single text command.out_dir (index.record_at commands rec)))
+    out_part Nothing e = ap (if_named (listings.row (bytes "outDir"))) (none_at config.out_dir e)
+    out_part (At rec) e = ap (if_named (listings.row (bytes "outDir"))) (some_at config.out_dir rec e ∙ built_out dir base (dir_of text (index.record_at commands rec)) (single text command.out_dir (index.record_at commands rec)))
 
-    declarations_part : (x : Found) → x ≡ begin_at begins row 7 → if_named (listings.row (bytes "declaration_dir")) (c.named config.declaration_dir) ≡ place_at commands text (bytes "declaration_dir") dir command.declaration_dir x
+    declarations_part : (x : Found) → x ≡ begin_at begins row 7 → if_named (listings.row (bytes "declarationDir")) (c.named config.declaration_dir) ≡ place_at commands text (bytes "declarationDir") dir command.declaration_dir x
     unfolding if_named place_at slot said
-    declarations_part Nothing e = ap (if_named (listings.row (bytes "declaration_dir"))) (none_at config.declaration_dir e)
-    declarations_part (At rec) e = ap (if_named (listings.row (bytes "declaration_dir"))) (some_at config.declaration_dir rec e ∙ built_declarations dir base (dir_of text (index.record_at commands rec)) (single text command.declaration_dir (index.record_at commands rec)))
+    declarations_part Nothing e = ap (if_named (listings.row (bytes "declarationDir"))) (none_at config.declaration_dir e)
+    declarations_part (At rec) e = ap (if_named (listings.row (bytes "declarationDir"))) (some_at config.declaration_dir rec e ∙ built_declarations dir base (dir_of text (index.record_at commands rec)) (single text command.declaration_dir (index.record_at commands rec)))
 
     flag_part : (id : ℕ) (x : Found) → x ≡ begin_at begins row (slot (config.flag id)) → if_named (flag_row id) (c.named (config.flag id)) ≡ flag_at commands id x
     unfolding if_named flag_at plain said

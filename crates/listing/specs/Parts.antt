@@ -21,8 +21,8 @@ module _ (commands : Text) (begins suppliers : List ℕ) (text : Text) (dir : Te
   unfoldable pub places_part : Text
   places_part =
       roots_at commands text dir (begin_at begins suppliers 5)
-      ++ (place_at commands text (bytes "out_dir") dir command.out_dir (begin_at begins suppliers 6)
-      ++ (place_at commands text (bytes "declaration_dir") dir command.declaration_dir (begin_at begins suppliers 7) ++ options_part commands begins suppliers text))
+      ++ (place_at commands text (bytes "outDir") dir command.out_dir (begin_at begins suppliers 6)
+      ++ (place_at commands text (bytes "declarationDir") dir command.declaration_dir (begin_at begins suppliers 7) ++ options_part commands begins suppliers text))
 
   module _ (base : Text) (rec : ℕ) where
     -- what follows the base, where the references are those of the record that begins at rec

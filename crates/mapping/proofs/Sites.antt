@@ -124,7 +124,7 @@ module _ (commands text : Text) (begins row : List ℕ) (base spec : Text) (at :
           by_found Nothing z = few_none (unmapped_is z)
           by_found (At rec) z = mapped_few rec z
 
-  -- What base_url gives
+  -- What baseUrl gives
 
   module _ (f : Found) (q : f ≡ begin_at begins row 3) where
     pub base_unnamed : f ≡ Nothing → from_base_url config spec (config.named base_url) ≡ []

@@ -3,9 +3,9 @@ use Rattle.std.specs.Prelude.{[], ◌∷◌, Bool}
 use Rattle.text.specs.Bytes.{Text, bytes}
 use Rattle.text.specs.Text.{same_text, some_of}
 
--- "`${config_dir}` is compared as its twelve bytes"
+-- "`${configDir}` is compared as its twelve bytes"
 abbrev pub config_dir : Text
-config_dir = bytes "${config_dir}"
+config_dir = bytes "${configDir}"
 
 -- "inside `node_modules`"
 abbrev pub node_modules : Text

@@ -11,10 +11,10 @@ use Rattle.patterns.specs.Patterns.{after_config_dir, two_stars, pattern_text, p
 -- a text, and whether it may be an item of include or exclude
 abbrev pub table : List (String × Bool)
 table =
-    -- "lack `{ } [ ] !`, and two adjacent stars are a whole component", "after a leading `${config_dir}`"
+    -- "lack `{ } [ ] !`, and two adjacent stars are a whole component", "after a leading `${configDir}`"
     ("a/**/*.ts", true)
-    ∷ ("${config_dir}**", true)
-    ∷ ("a/${config_dir}", false)
+    ∷ ("${configDir}**", true)
+    ∷ ("a/${configDir}", false)
     ∷ ("***", false)
     ∷ ("a**", false)
     ∷ ("b/**a/c", false)

@@ -35,7 +35,7 @@ module _ (s : Text) (r₁ : Bool) (e₁ : r₁ ≡ prefix_of config_dir s) where
 
 -- A tame text
 
--- `${config_dir}` has a brace
+-- `${configDir}` has a brace
 config_none : (s : Text) → each_of (none_of (bytes "{}[]!")) s ≡ true → prefix_of config_dir s ≡ false
 unfolding each_of prefix_of some_of
 config_none [] e = refl

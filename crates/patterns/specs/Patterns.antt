@@ -6,7 +6,7 @@ use Rattle.text.specs.Text.{prefix_of, same_text, each_of}
 use Rattle.components.specs.Components.{split}
 use Rattle.strings.specs.Strings.{none_of}
 
--- "after a leading `${config_dir}`"
+-- "after a leading `${configDir}`"
 unfoldable pub after_config_dir : Text → Text
 after_config_dir s = cond (prefix_of config_dir s) (drop 12 s) s
 
@@ -23,6 +23,6 @@ whole_stars p = not (two_stars p) || same_text p (bytes "**")
 unfoldable pub pattern_text : Text → Bool
 pattern_text s = each_of (none_of (bytes "{}[]!")) s && each_of whole_stars (split s)
 
--- "Include and exclude items, after a leading `${config_dir}`, .."
+-- "Include and exclude items, after a leading `${configDir}`, .."
 unfoldable pub pattern_rule : Text → Bool
 pattern_rule s = pattern_text (after_config_dir s)

@@ -201,7 +201,7 @@ module _ (commands text : Text) where
         let e = tries_paths commands text path directory s (length old) in
         paths_inherit true path directory s r old new (subst (λ (o : Outcome). Told o r old new) e t) (subst Numbered e (tries_numbered commands text path directory s (length old))) z
 
-  -- Where the specifier does not start with a dot and the directory is outside node_modules, the tries are the candidates and then the base_url path, if that is not among them
+  -- Where the specifier does not start with a dot and the directory is outside node_modules, the tries are the candidates and then the baseUrl path, if that is not among them
   pub one-story :
       (path directory s : Text) → inside_node_modules directory ≡ false → starts dot s ≡ false →
       (r : Numbers) (before new : Text) → Told (tsconfig_candidates commands text path s (length before)) r before new → r.number ≡ 0 →

@@ -60,7 +60,7 @@ module _ (rs : List Parsed) where
   TriesInherit path directory s r old new = PathsInherit path (λ c. tries c directory s) r old new
 
   -- Candidates gave the numbers r and left `new` in its output, tries gave q and left `tried` where `old` was: the tries begin with the candidates, and
-  -- what follows is the base_url path or nothing.
+  -- what follows is the baseUrl path or nothing.
   pub record OneStory (path s : Text) (r : Numbers) (new : Text) (q : Numbers) (old tried : Text) : Type 1 where
     pub config : ℕ
     pub means : locate (paths_of rs) path ≡ some config

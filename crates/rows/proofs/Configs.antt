@@ -113,7 +113,7 @@ own_number c r row o = o.own
 
 -- Merged rows
 
--- the base rule over tests: r, s that the nearer and the other lack base_url, t that the nearer lacks paths
+-- the base rule over tests: r, s that the nearer and the other lack baseUrl, t that the nearer lacks paths
 base-rule :
     {X : Type 0} (g : ℕ → X) (r s t : Bool) (x y : ℕ) →
     g (cond r (cond s (cond t y x) y) x)

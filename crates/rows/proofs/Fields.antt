@@ -55,7 +55,7 @@ field_of (suc (suc (suc (suc (suc (suc (suc (suc j)))))))) h g =
 
 -- Fields that parsing leaves as they are
 
--- all but root dirs, out_dir and declaration_dir
+-- all but root dirs, outDir and declarationDir
 unfoldable pub plain : Field → Bool
 plain files = true
 plain include = true

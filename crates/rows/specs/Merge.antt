@@ -6,7 +6,7 @@ use Rattle.rows.specs.Rows.{absent, base_place}
 unfoldable pub nearer : ℕ → ℕ → ℕ
 nearer x y = cond (eqb x absent) y x
 
--- the supplier of the base: x, the nearer's, if that names base_url (by u), else y, the other's, if that does (by v), else the nearer's if it names
+-- the supplier of the base: x, the nearer's, if that names baseUrl (by u), else y, the other's, if that does (by v), else the nearer's if it names
 -- paths (by p), else the other's
 unfoldable pub base_by : ℕ → ℕ → ℕ → ℕ → ℕ → ℕ
 base_by u v p x y = cond (eqb u absent) (cond (eqb v absent) (cond (eqb p absent) y x) y) x

@@ -42,7 +42,7 @@ use Rattle.targets.proofs.Aims.{lists_none}
 use Rattle.mapping.proofs.Sites.{said_some, aliases_few, base_unnamed, base_named}
 use Rattle.roots.specs.Roots.{roots_of}
 
--- What a row says of root_dirs
+-- What a row says of rootDirs
 
 listed_some : (text : Text) (mark item : ℕ) (r : List Cmd) → is_some (listed text mark item r) ≡ true → listed text mark item r ≡ some (strings text item r)
 unfolding is_some

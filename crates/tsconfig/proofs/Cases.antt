@@ -117,16 +117,16 @@ p ls = at "/p/tsconfig.json" ls
 
 abbrev pub table : List Row
 table =
-    -- parsed: "Parsing sets paths base, root dirs, out_dir and declaration_dir from the record's own directory, a leading `${config_dir}` kept"
+    -- parsed: "Parsing sets paths base, root dirs, outDir and declarationDir from the record's own directory, a leading `${configDir}` kept"
     (parses
-    (at "/p/q/a.json" (base_url "../u" ++ (root_dirs ("r" ∷ "${config_dir}/r" ∷ "/x/../y" ∷ []) ++ (command.out_dir says "" ∷ command.declaration_dir says "./d/" ∷ files ("f" ∷ [])))))
-    gets "files=f\nbaseUrl=../u\nbase=/p/u\nrootDir=/p/q/r\nrootDir=${config_dir}/r\nrootDir=/x/../y\noutDir=\ndeclarationDir=/p/q/d\n" ∷ [])
+    (at "/p/q/a.json" (base_url "../u" ++ (root_dirs ("r" ∷ "${configDir}/r" ∷ "/x/../y" ∷ []) ++ (command.out_dir says "" ∷ command.declaration_dir says "./d/" ∷ files ("f" ∷ [])))))
+    gets "files=f\nbaseUrl=../u\nbase=/p/u\nrootDir=/p/q/r\nrootDir=${configDir}/r\nrootDir=/x/../y\noutDir=\ndeclarationDir=/p/q/d\n" ∷ [])
     ∷ (parses (at "/p/q/a.json" []) gets "base=/p/q\n" ∷ [])
-    ∷ (parses (at "/p/q/a.json" (base_url "${config_dir}/u")) gets "baseUrl=${config_dir}/u\nbase=${config_dir}/u\n" ∷ [])
+    ∷ (parses (at "/p/q/a.json" (base_url "${configDir}/u")) gets "baseUrl=${configDir}/u\nbase=${configDir}/u\n" ∷ [])
     -- merged: "a field is the nearer's if named, else the other's"
     ∷ (merges (at "/a/A" (files [] ++ (turns 2 0 ∷ [])) ++ at "/b/B" (files ("f" ∷ []) ++ (include ("g" ∷ []) ++ (turns 2 1 ∷ turns 3 1 ∷ []))))
     gets "files\ninclude=g\nbase=/b\nflag 2=0\nflag 3=1\n" ∷ [])
-    -- "the base is the nearer's if it names base_url"
+    -- "the base is the nearer's if it names baseUrl"
     ∷ (merges (at "/a/A" (base_url "u") ++ at "/b/B" (base_url "v" ++ paths [])) gets "baseUrl=u\nbase=/a/u\npaths\n" ∷ [])
     -- "else the other's if that does"
     ∷ (merges (at "/a/A" (paths []) ++ at "/b/B" (base_url "v")) gets "baseUrl=v\nbase=/b/v\npaths\n" ∷ [])
@@ -135,15 +135,15 @@ table =
     -- "else the other's"
     ∷ (merges (at "/a/A" [] ++ at "/b/B" (paths (key "k" ("t" ∷ [])))) gets "base=/b\nkey=k\ntarget=t\n" ∷ [])
     ∷ (merges (at "/a/A" [] ++ at "/b/B" []) gets "base=/b\n" ∷ [])
-    -- built: "Files, include, exclude and the printed base_url are read from the built config's directory, inherited or not"
+    -- built: "Files, include, exclude and the printed baseUrl are read from the built config's directory, inherited or not"
     ∷ (builds "/q/tsconfig.json"
     (p (files ("f/" ∷ "/f/" ∷ "../f" ∷ "" ∷ []) ++ (base_url "u" ++ (paths (key "k" ("t" ∷ "../*" ∷ "" ∷ [])) ++ (root_dirs ("r" ∷ []) ++ (command.reference says "./c" ∷ []))))))
     gets "files=/q/f\nfiles=/f/\nfiles=/f\nfiles=\nbaseUrl=/q/u\nbase=/p/u\nkey=k\ntarget=/p/u/t\ntarget=/p/*\ntarget=\nreference=./c\nrootDir=/p/r\n" ∷ [])
-    -- `${config_dir}` is joined, never normalised
+    -- `${configDir}` is joined, never normalised
     ∷ (builds "/q/tsconfig.json"
-    (p (files ("${config_dir}" ∷ "${config_dir}//x/../y/" ∷ "a/${config_dir}" ∷ []) ++ (base_url "${config_dir}/u" ++ (paths (key "k" ("${config_dir}/*" ∷ "../*" ∷ [])) ++ (root_dirs ("${config_dir}r" ∷ []) ++ (command.out_dir says "${config_dir}" ∷ []))))))
-    gets "files=/q/\nfiles=/q/x/../y/\nfiles=/q/a/${config_dir}\nbaseUrl=/q/u\nbase=/q/u\nkey=k\ntarget=/q/*\ntarget=/q/*\nrootDir=/q/r\noutDir=/q/\n" ∷ [])
-    ∷ (builds "/tsconfig.json" (p (command.out_dir says "${config_dir}" ∷ command.declaration_dir says "${config_dir}/../d" ∷ turns 10 1 ∷ turns 2 0 ∷ option 6 "" ∷ option 0 "react" ∷ []))
+    (p (files ("${configDir}" ∷ "${configDir}//x/../y/" ∷ "a/${configDir}" ∷ []) ++ (base_url "${configDir}/u" ++ (paths (key "k" ("${configDir}/*" ∷ "../*" ∷ [])) ++ (root_dirs ("${configDir}r" ∷ []) ++ (command.out_dir says "${configDir}" ∷ []))))))
+    gets "files=/q/\nfiles=/q/x/../y/\nfiles=/q/a/${configDir}\nbaseUrl=/q/u\nbase=/q/u\nkey=k\ntarget=/q/*\ntarget=/q/*\nrootDir=/q/r\noutDir=/q/\n" ∷ [])
+    ∷ (builds "/tsconfig.json" (p (command.out_dir says "${configDir}" ∷ command.declaration_dir says "${configDir}/../d" ∷ turns 10 1 ∷ turns 2 0 ∷ option 6 "" ∷ option 0 "react" ∷ []))
     gets "base=/p\noutDir=/\ndeclarationDir=/../d\nflag 2=0\nflag 10=1\ntext 0=react\ntext 6=\n" ∷ [])
     -- what a `..` drops goes with the slashes before it; the base itself stays as it is
     ∷ (builds "/p/tsconfig.json" (p (base_url "//u//w" ++ paths (key "k" (".." ∷ "." ∷ "../x" ∷ "../.." ∷ [])))) gets "baseUrl=//u//w\nbase=//u//w\nkey=k\ntarget=//u\ntarget=//u//w\ntarget=//u/x\ntarget=/\n" ∷ [])

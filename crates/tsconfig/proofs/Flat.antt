@@ -56,7 +56,7 @@ data Both {A R : Type 0} : Option A → Option R → Type 0 where
   neither : Both none none
   each : (a : A) (r : R) → Both (some a) (some r)
 
--- The merge's base: U, P are the bases of the first naming base_url and paths, there where the fields M, N are; L is the last's.
+-- The merge's base: U, P are the bases of the first naming baseUrl and paths, there where the fields M, N are; L is the last's.
 base-merge :
     {A C B : Type 0} {Mₐ Mᵦ : Option A} {N : Option C} {Uₐ Pₐ Uᵦ : Option B} →
     Both Mₐ Uₐ → Both N Pₐ → Both Mᵦ Uᵦ → (Pᵦ : Option B) (Lₐ Lᵦ : B) →

@@ -13,7 +13,7 @@ unfolding or_if_none if_any
 first_then_rest [] u = sym (append-nil u)
 first_then_rest (x ∷ xs) u = refl
 
--- Outside node_modules, the tries of a specifier that does not start with a dot are its candidates, and then the base_url path where the mapping gave the candidates.
+-- Outside node_modules, the tries of a specifier that does not start with a dot are its candidates, and then the baseUrl path where the mapping gave the candidates.
 pub candidates_lead : (c : Settings) (dir s : Text) → inside_node_modules dir ≡ false → starts dot s ≡ false → tries c dir s ≡ candidates c s ++ after_candidates c s
 unfolding tries candidates after_candidates
 candidates_lead c dir s outside plain = rw (outside, plain) (first_then_rest (aliases c s) (from_base_url c s (c.named base_url)))

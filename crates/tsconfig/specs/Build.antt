@@ -18,19 +18,19 @@ unfoldable pub without_slashes : Text → Text
 without_slashes [] = []
 without_slashes (x ∷ s) = cond (eqb x slash) (without_slashes s) (x ∷ s)
 
--- what follows `${config_dir}`, joined to the built config's directory: "`${config_dir}` built in `/p`: `/p/`"
+-- what follows `${configDir}`, joined to the built config's directory: "`${configDir}` built in `/p`: `/p/`"
 unfoldable pub in_config_dir : Text → Text → Text
 in_config_dir dir s = push_of dir (without_slashes (drop 12 s))
 
--- a leading `${config_dir}` replaced, else as placed when parsed
+-- a leading `${configDir}` replaced, else as placed when parsed
 unfoldable pub substituted : Text → Text → Text
 substituted dir s = cond (prefix_of config_dir s) (in_config_dir dir s) s
 
--- adjust_path: a leading `${config_dir}` replaced, else read from the directory
+-- adjust_path: a leading `${configDir}` replaced, else read from the directory
 unfoldable pub adjusted : Text → Text → Text → Text
 adjusted dir from s = cond (prefix_of config_dir s) (in_config_dir dir s) (normalize_with from s)
 
--- "Files, include, exclude and the printed base_url are read from the built config's directory, inherited or not"; targets from the base
+-- "Files, include, exclude and the printed baseUrl are read from the built config's directory, inherited or not"; targets from the base
 unfoldable pub built_value : Text → Text → (f : Field) → Value f → Value f
 built_value dir base files v = map (adjusted dir dir) v
 built_value dir base include v = map (adjusted dir dir) v

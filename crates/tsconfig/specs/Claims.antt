@@ -20,12 +20,12 @@ pub record Site : Type 0 where
 abbrev pub allow_js : Settings → Bool
 allow_js c = get_or (c.named (flag 8)) false
 
--- the extensions that a config takes in: TypeScript's own, and JavaScript's where allow_js is on, js. is_file_extension_allowed_in_tsconfig
+-- the extensions that a config takes in: TypeScript's own, and JavaScript's where allowJs is on, js. is_file_extension_allowed_in_tsconfig
 unfoldable pub allowed : Bool → Option Text → Bool
 allowed js none = false
 allowed js (some e) = is_ts_extension e || (js && is_js_extension e)
 
--- no program's input: no extension, or JavaScript's without allow_js. is_extensionless_or_uncompiled_js
+-- no program's input: no extension, or JavaScript's without allowJs. is_extensionless_or_uncompiled_js
 unfoldable pub outside : Bool → Option Text → Bool
 outside js none = true
 outside js (some e) = not js && is_js_extension e

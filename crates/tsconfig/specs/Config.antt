@@ -2,7 +2,7 @@
 use Rattle.std.specs.Prelude.{List, [], ◌∷◌, ℕ}
 use Rattle.std.proofs.Math.Option.{Option, some, none, map, get_or}
 
--- "Inherited are files, include, exclude, base_url, paths, root_dirs, out_dir, declaration_dir, each flag, each text option."
+-- "Inherited are files, include, exclude, baseUrl, paths, rootDirs, outDir, declarationDir, each flag, each text option."
 pub data Field : Type 0 where
   files include exclude base_url paths root_dirs out_dir declaration_dir : Field
   flag text : ℕ → Field
@@ -34,7 +34,7 @@ module _ {Val : Field → Type 0} {B : Type 0} where
   abbrev pub base_if : Field → Config Val B → Option B
   base_if f c = map (λ v. c.base) (c.named f)
 
-  -- "Merging two, nearer first: a field is the nearer's if named, else the other's; the base is the nearer's if it names base_url, else the
+  -- "Merging two, nearer first: a field is the nearer's if named, else the other's; the base is the nearer's if it names baseUrl, else the
   -- other's if that does, else the nearer's if it names paths, else the other's." TsConfig::extend_tsconfig
   unfoldable pub merge : Config Val B → Config Val B → Config Val B
   merge a b =
@@ -44,7 +44,7 @@ module _ {Val : Field → Type 0} {B : Type 0} where
       }
 
   -- The flat config (01's term) of a line, its nearest and the rest. Demand 3: "In its flat config each inherited field is that of the first in the line to name it, and
-  -- the paths base that of the first naming base_url, else of the first naming paths, else of the last in the line"
+  -- the paths base that of the first naming baseUrl, else of the first naming paths, else of the last in the line"
   unfoldable pub flat : Config Val B → List (Config Val B) → Config Val B
   flat c cs =
       record {

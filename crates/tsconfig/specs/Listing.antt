@@ -63,10 +63,10 @@ listing references c =
     if_named (items (bytes "files")) (c.named files)
     ++ (if_named (items (bytes "include")) (c.named include)
     ++ (if_named (items (bytes "exclude")) (c.named exclude)
-    ++ (if_named (row (bytes "base_url")) (c.named base_url)
+    ++ (if_named (row (bytes "baseUrl")) (c.named base_url)
     ++ (row (bytes "base") c.base
     ++ (if_named mapping (c.named paths)
     ++ (rows (bytes "reference") references
-    ++ (if_named (items (bytes "root_dir")) (c.named root_dirs)
-    ++ (if_named (row (bytes "out_dir")) (c.named out_dir)
-    ++ (if_named (row (bytes "declaration_dir")) (c.named declaration_dir) ++ (flags c 0 11 ++ texts c 0 7))))))))))
+    ++ (if_named (items (bytes "rootDir")) (c.named root_dirs)
+    ++ (if_named (row (bytes "outDir")) (c.named out_dir)
+    ++ (if_named (row (bytes "declarationDir")) (c.named declaration_dir) ++ (flags c 0 11 ++ texts c 0 7))))))))))

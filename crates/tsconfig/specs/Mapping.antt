@@ -72,7 +72,7 @@ unfoldable pub or_if_none : List Text → List Text → List Text
 or_if_none [] other = other
 or_if_none (x ∷ xs) other = x ∷ xs
 
--- "Candidates are `resolve_path_alias_or_base_url`'s list": the base_url path only where the mapping gave nothing
+-- "Candidates are `resolve_path_alias_or_base_url`'s list": the baseUrl path only where the mapping gave nothing
 unfoldable pub candidates : Settings → Text → List Text
 candidates c s = or_if_none (aliases c s) (from_base_url c s (c.named base_url))
 
@@ -114,6 +114,6 @@ unfoldable pub if_any : List Text → List Text → List Text
 if_any [] other = []
 if_any (x ∷ xs) other = other
 
--- what is tried after the candidates, where the specifier does not start with a dot: the base_url path, unless it is a candidate itself
+-- what is tried after the candidates, where the specifier does not start with a dot: the baseUrl path, unless it is a candidate itself
 unfoldable pub after_candidates : Settings → Text → List Text
 after_candidates c s = if_any (aliases c s) (from_base_url c s (c.named base_url))

@@ -33,11 +33,11 @@ pub record Parsed : Type 0 where
   pub says : (f : Field) → Option (Value f)
   pub base : Text
 
--- "a leading `${config_dir}` kept for the build", else read from the record's own directory
+-- "a leading `${configDir}` kept for the build", else read from the record's own directory
 unfoldable pub placed : Text → Text → Text
 placed dir s = cond (prefix_of config_dir s) s (normalize_with dir s)
 
--- "Parsing sets paths base, root dirs, out_dir and declaration_dir from the record's own directory"
+-- "Parsing sets paths base, root dirs, outDir and declarationDir from the record's own directory"
 unfoldable pub placed_value : Text → (f : Field) → Value f → Value f
 placed_value dir files v = v
 placed_value dir include v = v
@@ -50,7 +50,7 @@ placed_value dir declaration_dir v = placed dir v
 placed_value dir (flag id) v = v
 placed_value dir (text id) v = v
 
--- "with its own paths base": its base_url, else its directory
+-- "with its own paths base": its baseUrl, else its directory
 unfoldable pub own_base : Text → Option Text → Text
 own_base dir none = dir
 own_base dir (some u) = placed dir u

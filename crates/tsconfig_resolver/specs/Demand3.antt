@@ -26,7 +26,7 @@ module _ {Val : Field → Type 0} {B : Type 0} (b : Configs Val B) where
     pub settled : (i k : ℕ) → elem i (line b c) ≡ true → b.size ≤ k → rest b k i ≡ above b i
     -- each inherited field is that of the first in the line to name it
     pub field : (f : Field) → r.config.named f ≡ first (λ i. (b.own i).named f) (line b c)
-    -- the base is that of the first naming base_url, else of the first naming paths, else of the last in the line
+    -- the base is that of the first naming baseUrl, else of the first naming paths, else of the last in the line
     pub base :
         r.config.base
         ≡ get_or (first (λ i. base_if base_url (b.own i)) (line b c))

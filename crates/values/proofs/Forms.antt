@@ -57,7 +57,7 @@ text_room s h = record { room = omega arith }
 pub text_holds : (s o u : Text) (r : ℕ) → length s ≤ length o → Emits s o 0 u r → Holds r u s
 text_holds s o u r h p = emits_holds s o u 0 r (omega arith) p
 
--- What follows `${config_dir}`, joined
+-- What follows `${configDir}`, joined
 
 module _ (dir s tail rest : Text) (p : tail ≡ drop 12 s) (q : rest ≡ without_slashes tail) (o : Text) (h : length dir + 1 + length s ≤ length o) where
   rest_size : length rest ≤ length s
@@ -73,7 +73,7 @@ module _ (dir s tail rest : Text) (p : tail ≡ drop 12 s) (q : rest ≡ without
   pub config_holds : (u : Text) (r : ℕ) → Emits (join_of dir rest) o 0 u r → Holds r u (in_config_dir dir s)
   config_holds u r e = subst (Holds r u) config_join (text_holds (join_of dir rest) o u r (omega (arith, rest_size, join_size dir rest)) e)
 
--- By whether `${config_dir}` leads
+-- By whether `${configDir}` leads
 
 module _ (s : Text) (k : Bool) (e : k ≡ prefix_of config_dir s) where
   module _ (dir u : Text) (r : ℕ) where
@@ -114,7 +114,7 @@ module _ (own s b put : Text) (n : ℕ) (h : Holds n b (placed own s)) (e : put 
   pub put_holds : (dir u : Text) (r : ℕ) → Holds r u (substituted dir put) → Holds r u (substituted dir (placed own s))
   put_holds dir u r k = subst (λ t. Holds r u (substituted dir t)) put_text k
 
--- Placed in the output, where it stays if no `${config_dir}` leads
+-- Placed in the output, where it stays if no `${configDir}` leads
 
 module _ (own s u : Text) (n : ℕ) (h : Holds n u (placed own s)) where
   pub placed_within : n ≤ length u

@@ -120,7 +120,7 @@ module _ (text : Text) where
 -- A record's own paths base
 
 module _ (text s : Text) (at : ℕ) where
-  -- its base_url, else its directory
+  -- its baseUrl, else its directory
   abbrev pub base_of : Text
   base_of = own_base (parent_of (record_path_of text (record_at s at))) (single text base_url (record_at s at))
 

@@ -16,7 +16,7 @@ use Rattle.lines.proofs.put_root_rows.Statement.{statement}
 use Rattle.lines.proofs.put_root_rows.Tie as tie
 
 abbrev invariant-loop : tie.invariant-loop
-invariant-loop out₀ at commands text rec dir own k₀ to₀ t13 out k to = (length out ≡ length out₀) × ((All (Good text) (record_at commands to)) × Owes (rows (bytes "root_dir") (map (built_place dir own) (strings text command.rootDir (record_at commands rec)))) out₀ at (rows (bytes "root_dir") (map (built_place dir own) (strings text command.rootDir (record_at commands to)))) out k)
+invariant-loop out₀ at commands text rec dir own k₀ to₀ t13 out k to = (length out ≡ length out₀) × ((All (Good text) (record_at commands to)) × Owes (rows (bytes "rootDir") (map (built_place dir own) (strings text command.rootDir (record_at commands rec)))) out₀ at (rows (bytes "rootDir") (map (built_place dir own) (strings text command.rootDir (record_at commands to)))) out k)
 
 abbrev decreases-loop : tie.decreases-loop
 decreases-loop out₀ at commands text rec dir own k₀ to₀ t13 out k to = length commands - to
