@@ -11,7 +11,7 @@ const TAB: u8 = 0x09;
 const PATTERN: u8 = 0xA5;
 
 // What a line asks.
-#[derive(Drop)]
+#[derive(Clone, Copy)]
 pub enum Kind {
     Build,
     Owner,

@@ -68,7 +68,7 @@ pub const END_SLOT: usize = 20;
 pub const FLAG_SLOTS: usize = 21;
 
 // A command: its byte, the id and value of a flag, the id of a text option, and start and length of its string. What it has not is 0.
-#[derive(Drop)]
+#[derive(Clone, Copy)]
 pub struct Cmd {
     pub op: u8,
     pub id: u8,
@@ -78,12 +78,12 @@ pub struct Cmd {
 }
 
 // A reading position in the commands.
-#[derive(Drop)]
+#[derive(Clone, Copy)]
 pub struct Cursor {
     pub at: usize,
 }
 
-#[derive(Drop)]
+#[derive(Clone, Copy)]
 pub enum Step {
     // The command, and the position after it.
     Command(Cmd, Cursor),
@@ -243,7 +243,7 @@ pub fn string_of(text: &[u8], c: Cmd) -> &[u8]
     piece(text, c.start, c.len)
 }
 
-#[derive(Drop)]
+#[derive(Clone, Copy)]
 pub enum Checked {
     // A refusal's number and place.
     Refused(u32, usize),
@@ -251,7 +251,7 @@ pub enum Checked {
     Closed(usize, usize, usize),
 }
 
-#[derive(Drop)]
+#[derive(Clone, Copy)]
 pub enum Judged {
     // A refusal's number and place.
     No(u32, usize),

@@ -7,7 +7,7 @@ ghost use Rattle.components.specs.Places.{piece_end};
 use text::{DOT, Found, SLASH, find_byte, from};
 
 // What a piece between slashes is.
-#[derive(Drop)]
+#[derive(Clone, Copy)]
 pub enum Piece {
     // Nothing, or `.`
     Skip,

@@ -27,7 +27,7 @@ pub const BARE: u8 = 254;
 pub const EMPTY: u8 = 255;
 
 // What is told of a record before its parents are loaded: a refusal's number, or how many extends entries it has.
-#[derive(Drop)]
+#[derive(Clone, Copy)]
 pub enum Opening {
     Refused(u32),
     Ready(usize),

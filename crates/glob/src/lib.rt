@@ -6,7 +6,7 @@ ghost use Rattle.glob.specs.Verdicts.{FrontIs, AtStar, MayBegin, Skips, is_yes, 
 use text::{QUESTION, SLASH, STAR, from, upto};
 
 // How a pattern fares against a path. A failure says where else it fails too, so that an earlier star need not try there.
-#[derive(Drop)]
+#[derive(Clone, Copy)]
 pub enum Verdict {
     Yes,
     // It fails here.
@@ -20,7 +20,7 @@ pub enum Verdict {
 }
 
 // What a pattern comes to before its first star.
-#[derive(Drop)]
+#[derive(Clone, Copy)]
 pub enum Front {
     // No star decides it, or a last `**` does.
     Known(Verdict),

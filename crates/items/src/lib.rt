@@ -9,7 +9,7 @@ ghost use Rattle.items.specs.Items.{item_of, option_item, target_item};
 use book::{Cmd, Cursor, END, Step, TARGET};
 
 // A command that was looked for, and the offset after it.
-#[derive(Drop)]
+#[derive(Clone, Copy)]
 pub enum Item {
     At(Cmd, usize),
     Missing,

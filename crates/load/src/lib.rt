@@ -16,7 +16,7 @@ use text::upto;
 const OWN: usize = 27;
 
 // What is told of a load: a refusal's number and place, or the merges made so far.
-#[derive(Drop)]
+#[derive(Clone, Copy)]
 pub enum Told {
     Refused(u32, usize),
     Done(usize),

@@ -21,7 +21,7 @@ use references::{Whole, load_record};
 use sites::site_number;
 use text::{Found, between, upto};
 
-#[derive(Drop)]
+#[derive(Clone, Copy)]
 pub enum Owned {
     // A refusal's number and place.
     Refused(u32, usize),

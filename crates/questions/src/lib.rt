@@ -22,7 +22,7 @@ use text::{Found, upto};
 const NOBODY: usize = 65535;
 
 // What is told of a record that is opened: a refusal's number and place, or the merges made and the length of its config's base.
-#[derive(Drop)]
+#[derive(Clone, Copy)]
 pub enum Opening {
     Refused(u32, usize),
     Ready(usize, usize),

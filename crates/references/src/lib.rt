@@ -20,7 +20,7 @@ use rows::{ABSENT, ROW};
 use text::{Found, upto};
 
 // What is told of a config with its references: a refusal's number and place, or the config's merges and how many references it has.
-#[derive(Drop)]
+#[derive(Clone, Copy)]
 pub enum Whole {
     Refused(u32, usize),
     Project(usize, usize),

@@ -8,7 +8,7 @@ use emit::put_text;
 
 // The refusal's number and place, or 0 and 0 with the answer's two numbers and the bytes written.
 #[repr(C)]
-#[derive(Drop)]
+#[derive(Clone, Copy)]
 pub struct Numbers {
     pub number: u64,
     pub place: u64,

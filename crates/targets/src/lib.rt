@@ -19,7 +19,7 @@ use values::adjust;
 const SHORT: usize = 256;
 
 // How many paths were written, and the place after them.
-#[derive(Drop)]
+#[derive(Clone, Copy)]
 pub struct Listed {
     pub count: usize,
     pub at: usize,

@@ -11,14 +11,14 @@ pub const STAR: u8 = b'*';
 pub const QUESTION: u8 = b'?';
 
 // Where a byte stands in a text.
-#[derive(Drop)]
+#[derive(Clone, Copy)]
 pub enum Found {
     At(usize),
     Nothing,
 }
 
 // A part of a text: the bytes from the first place up to the second.
-#[derive(Drop)]
+#[derive(Clone, Copy)]
 pub enum Part {
     Span(usize, usize),
     Missing,

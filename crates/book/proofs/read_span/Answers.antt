@@ -1,0 +1,6 @@
+use Rattle.book.specs.Command.{operands}
+use Rattle.book.proofs.read_span.Goals as goal
+
+pub returns : goal.returns
+unfolding operands
+returns c = simp (c.word_at-start.ensures, c.word_at-len.ensures)

@@ -1,0 +1,6 @@
+use mathlib.Core.Path.{◌∙◌}
+use Rattle.path.proofs.Under.{same_lead}
+use Rattle.path.proofs.same_lead.Goals as goal
+
+pub returns : goal.returns
+returns c = c.same_text.ensures ∙ same_lead _ _ _ _ c.lead_len.ensures c.lead_len-2.ensures _ _ c.upto.ensures c.upto-2.ensures
