@@ -1,4 +1,6 @@
 // Question lines: what a line asks, and its fields. And an output that is filled before a question, where it is looked at which of its bytes stay.
+#![tactic(auto)]
+
 ghost use Rattle.std.specs.Prelude.{◌≡◌, length, drop, replicate, eqb};
 ghost use Rattle.text.specs.Text.{each_of, before_byte, after_byte};
 ghost use Rattle.asked.specs.Asked.{tab, has_tab, kind_of, pattern};

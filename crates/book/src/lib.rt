@@ -1,4 +1,6 @@
 // The book: its commands, read one after the other.
+#![tactic(auto)]
+
 ghost use Rattle.std.specs.Prelude.{◌≡◌, false, ◌+◌, ◌*◌, ◌<◌, length, take, drop, eqb};
 ghost use Rattle.book.specs.Command.{width_of, word, operands};
 ghost use Rattle.book.specs.Rules.{text_of};

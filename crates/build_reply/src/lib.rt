@@ -1,4 +1,6 @@
 // The answer to a build: the listing of a config, where it fits the output.
+#![tactic(auto)]
+
 ghost use Rattle.std.specs.Prelude.{◌≡◌, ◌≤◌, length};
 ghost use Rattle.rows.specs.Rows.{Row, site_of};
 ghost use Rattle.rows.specs.Records.{Records, records_of};

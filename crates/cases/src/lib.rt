@@ -1,1 +1,2 @@
 // The definitions of the questions, held against the crate by computation.
+#![tactic(auto)]

@@ -1,4 +1,6 @@
 // The check of a book: its records in turn, and their index.
+#![tactic(auto)]
+
 ghost use Rattle.std.specs.Prelude.{◌≡◌, true, length};
 ghost use Rattle.strings.specs.Scan.{tame_text};
 ghost use Rattle.book.specs.Index.{JudgedAs};

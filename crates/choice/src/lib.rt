@@ -1,4 +1,6 @@
 // The key of `paths` that a specifier is mapped by: the equal one, or the best wildcard.
+#![tactic(auto)]
+
 ghost use Rattle.std.specs.Prelude.{◌≡◌};
 ghost use Rattle.std.proofs.Math.Option.{none};
 ghost use Rattle.book.specs.Record.{keys_of};

@@ -1,4 +1,6 @@
 // Whether a built config claims a path: is_file_included_in_tsconfig.
+#![tactic(auto)]
+
 ghost use Rattle.std.specs.Prelude.{◌≡◌, map, ◌≤◌, length};
 ghost use Rattle.std.proofs.Math.Option.{none};
 ghost use Rattle.text.specs.Text.{some_of};

@@ -1,4 +1,6 @@
 // Two strings compared: whether one path lies under the other, and a byte by which texts that differ are told apart.
+#![tactic(auto)]
+
 ghost use Rattle.std.specs.Prelude.{◌≡◌, ◌≤◌, ◌<◌, length};
 ghost use Rattle.text.specs.Text.{prefix_of};
 ghost use Rattle.compare.specs.Compare.{covers, mix_from, low_half, digest_of};

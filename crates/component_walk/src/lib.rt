@@ -1,4 +1,6 @@
 // The components of a path one after the other: the next one, how many there are, and whether one is node_modules.
+#![tactic(auto)]
+
 ghost use Rattle.std.specs.Prelude.{◌≡◌, length, drop};
 ghost use Rattle.components.specs.Components.{split, components, inside_node_modules};
 ghost use Rattle.components.specs.Places.{next_part};

@@ -1,4 +1,6 @@
 // The pieces of a path between its slashes: what each is, where it ends, and the `/` or `.` in front.
+#![tactic(auto)]
+
 ghost use Rattle.std.specs.Prelude.{◌≡◌, length};
 ghost use Rattle.text.specs.Bytes.{slash};
 ghost use Rattle.components.specs.Components.{piece_of, is_skip, is_name, starts, leads_dot, lead_of};

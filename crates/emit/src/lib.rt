@@ -1,4 +1,6 @@
 // The emitter of lent output: what fits is written, all of it is counted.
+#![tactic(auto)]
+
 ghost use Rattle.std.specs.Prelude.{◌≡◌, [], ◌∷◌, ◌-◌};
 ghost use Rattle.emit.specs.Emit.{Room, Emits};
 

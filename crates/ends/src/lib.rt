@@ -1,4 +1,6 @@
 // The end of a path: its last piece, its last component, and the path without it.
+#![tactic(auto)]
+
 ghost use Rattle.std.specs.Prelude.{◌≡◌, ◌+◌, ◌-◌, length, drop, true};
 ghost use Rattle.text.specs.Bytes.{slash};
 ghost use Rattle.emit.specs.Emit.{Holds};

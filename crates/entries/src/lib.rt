@@ -1,4 +1,6 @@
 // The extends entries of a record: read, each by its code, and refused by 11 and 12 as they are read.
+#![tactic(auto)]
+
 ghost use Rattle.std.specs.Prelude.{◌≡◌, [], ◌∷◌, map, ◌||◌, cond, ◌+◌, ◌≤◌, ◌<◌, eqb, length, get_or, take, drop};
 ghost use Rattle.std.proofs.Math.Option.{none};
 ghost use Rattle.text.specs.Bytes.{slash, dot};

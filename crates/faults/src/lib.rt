@@ -1,4 +1,6 @@
 // What is wrong with a command, given those before it.
+#![tactic(auto)]
+
 ghost use Rattle.std.specs.Prelude.{◌≡◌, [], true, not, ◌&&◌, ◌||◌, ◌+◌, ◌<◌, ◌≤◌, length, get_or, eqb, leb};
 ghost use Rattle.strings.specs.Strings.{string_rule};
 ghost use Rattle.strings.specs.Scan.{tame_text};

@@ -1,4 +1,6 @@
 // The lines of one field, written to lent output: what its supplier says, as built, or nothing where it has none.
+#![tactic(auto)]
+
 ghost use Rattle.std.specs.Prelude.{◌≤◌, length};
 ghost use Rattle.text.specs.Bytes.{bytes};
 ghost use Rattle.emit.specs.Emit.{Room, Emits};

@@ -1,4 +1,6 @@
 // The file name of a path, and its extension.
+#![tactic(auto)]
+
 ghost use Rattle.std.specs.Prelude.{◌≡◌};
 ghost use Rattle.text.specs.Text.{part_of};
 ghost use Rattle.ends.specs.Ends.{file_name, extension};

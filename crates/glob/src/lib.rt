@@ -1,4 +1,6 @@
 // A pattern with `?`, `*` and `**` up to its first star, and how it fares against a path.
+#![tactic(auto)]
+
 ghost use Rattle.std.specs.Prelude.{◌≡◌, ◌≤◌, length, take};
 ghost use Rattle.glob.specs.Glob.{glob_of};
 ghost use Rattle.glob.specs.Verdicts.{FrontIs, AtStar, MayBegin, Skips, is_yes, is_settled, is_decided, inside_of, past_of, dirs_of, behind_of, passed_of, takes_of};

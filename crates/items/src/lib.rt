@@ -1,4 +1,6 @@
 // Reading a checked book: the items of a record one after the other.
+#![tactic(auto)]
+
 ghost use Rattle.std.specs.Prelude.{◌≡◌, drop};
 ghost use Rattle.text.specs.Text.{some_of};
 ghost use Rattle.book.specs.Command.{decode};

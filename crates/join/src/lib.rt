@@ -1,4 +1,6 @@
 // Joining paths: `Path::join`, and `normalize_with` of src/path.rs.
+#![tactic(auto)]
+
 ghost use Rattle.std.specs.Prelude.{◌≡◌, ◌++◌, ◌+◌, ◌≤◌, length, take};
 ghost use Rattle.emit.specs.Emit.{Room, Emits, Holds};
 ghost use Rattle.join.specs.Join.{joint, push_of, join_of, step_of, normalize_with, slash_if};

@@ -1,4 +1,6 @@
 // A key of `paths` against a specifier: whether it matches, and the piece that its star stood for.
+#![tactic(auto)]
+
 ghost use Rattle.std.specs.Prelude.{◌≡◌, [], suc, ◌-◌, ◌<◌, length};
 ghost use Rattle.std.proofs.Math.Option.{get_or};
 ghost use Rattle.text.specs.Text.{between as betweenOf};

@@ -1,4 +1,6 @@
 // The lines of a listing, written to lent output: a name and a value, and the items of one record, a line each.
+#![tactic(auto)]
+
 ghost use Rattle.std.specs.Prelude.{map, ◌+◌, ◌≤◌, length};
 ghost use Rattle.text.specs.Bytes.{bytes};
 ghost use Rattle.emit.specs.Emit.{Room, Emits};

@@ -1,4 +1,6 @@
 // A build's whole output, written to lent output: the fields in turn, each as its supplier says it and as built.
+#![tactic(auto)]
+
 ghost use Rattle.std.specs.Prelude.{◌≡◌, ◌≤◌, length};
 ghost use Rattle.emit.specs.Emit.{Room, Emits};
 ghost use Rattle.tsconfig.specs.Listing.{listing};

@@ -1,4 +1,6 @@
 // The load of a config with its extends.
+#![tactic(auto)]
+
 ghost use Rattle.std.specs.Prelude.{◌≡◌, ◌+◌, ◌*◌};
 ghost use Rattle.tsconfig_resolver.specs.Load.{load as load_of, parent as parent_by};
 ghost use Rattle.tsconfig_resolver.specs.Find.{seen};

@@ -1,4 +1,6 @@
 // What a specifier maps to: the key of `paths` that is chosen, its targets, and the candidates.
+#![tactic(auto)]
+
 ghost use Rattle.std.specs.Prelude.{◌≡◌, map};
 ghost use Rattle.std.proofs.Math.Option.{some};
 ghost use Rattle.text.specs.Bytes.{dot};

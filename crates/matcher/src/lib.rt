@@ -1,4 +1,6 @@
 // Patterns against paths: what follows a star is tried at one place after another.
+#![tactic(auto)]
+
 ghost use Rattle.std.specs.Prelude.{◌≡◌};
 ghost use Rattle.glob.specs.Glob.{glob_of};
 ghost use Rattle.glob.specs.Verdicts.{Sound};

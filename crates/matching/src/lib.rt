@@ -1,4 +1,6 @@
 // Whether an item of files, include or exclude, built in a directory, matches a path; the extensions that a config takes in.
+#![tactic(auto)]
+
 ghost use Rattle.std.specs.Prelude.{◌≡◌, not, ◌&&◌, ◌||◌, ◌+◌, ◌≤◌, length, take};
 ghost use Rattle.text.specs.Bytes.{star};
 ghost use Rattle.text.specs.Text.{some_of};

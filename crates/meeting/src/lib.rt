@@ -1,4 +1,6 @@
 // Whether a string meets one of those before it: a path that is another or its ancestor, a key that is another.
+#![tactic(auto)]
+
 ghost use Rattle.std.specs.Prelude.{◌≡◌, true, false, cond, ℕ, ◌+◌, ◌≤◌, ◌<◌, length, get_or, eqb};
 ghost use Rattle.text.specs.Bytes.{slash};
 ghost use Rattle.text.specs.Text.{some_of};

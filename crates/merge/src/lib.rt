@@ -1,4 +1,6 @@
 // The merge of two rows, and rows in a table.
+#![tactic(auto)]
+
 ghost use Rattle.std.specs.Prelude.{◌≡◌, ◌+◌, ◌*◌, ◌≤◌, length};
 ghost use Rattle.emit.specs.Emit.{written};
 ghost use Rattle.rows.specs.Rows.{row_at};

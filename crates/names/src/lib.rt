@@ -1,4 +1,6 @@
 // The fixed names that a text is compared with, and the extensions.
+#![tactic(auto)]
+
 ghost use Rattle.std.specs.Prelude.{◌≡◌, [], ◌∷◌};
 ghost use Rattle.text.specs.Text.{prefix_of, same_text, some_of};
 ghost use Rattle.names.specs.Names.{config_dir, node_modules, tsconfig_json, json, is_ts_extension, is_js_extension};

@@ -1,4 +1,6 @@
 // Whether a path is normal. The pieces are not split: each four bytes in a row are looked at, and the verdict is gathered by an or of bytes.
+#![tactic(auto)]
+
 ghost use Rattle.std.specs.Prelude.{◌≡◌, not, ◌&&◌, get_or, eqb};
 ghost use Rattle.text.specs.Bytes.{slash};
 ghost use Rattle.path.specs.Path.{normal};

@@ -1,4 +1,6 @@
 // The flags and the text options, written to lent output: a line each, by rising id, where it has a supplier.
+#![tactic(auto)]
+
 ghost use Rattle.std.specs.Prelude.{◌++◌, ◌<◌, eqb};
 ghost use Rattle.emit.specs.Emit.{Room, Emits};
 ghost use Rattle.tsconfig.specs.Listing.{row, decimal, flag_row};

@@ -1,4 +1,6 @@
 // The owner of a file: find_tsconfig_auto and resolve_tsconfig_solution.
+#![tactic(auto)]
+
 ghost use Rattle.std.specs.Prelude.{◌≡◌};
 ghost use Rattle.std.proofs.Math.Option.{none};
 ghost use Rattle.names.specs.Names.{tsconfig_json};

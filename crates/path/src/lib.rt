@@ -1,4 +1,6 @@
 // Whole paths by components: lies under, equality, and what is left after a directory. src/path.rs and what it needs of std's `Path` on Unix.
+#![tactic(auto)]
+
 ghost use Rattle.std.specs.Prelude.{◌≡◌, drop};
 ghost use Rattle.text.specs.Text.{same_text, part_of};
 ghost use Rattle.components.specs.Components.{split, lead_of, names};

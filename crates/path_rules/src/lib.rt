@@ -1,4 +1,6 @@
 // The rules of paths: what refusal 4 tests in a record's path, an extends entry and a reference, and 7 in a path that is asked about.
+#![tactic(auto)]
+
 ghost use Rattle.std.specs.Prelude.{◌≤◌, ◌≡◌, [], ◌∷◌, true, ◌&&◌, length, drop, eqb};
 ghost use Rattle.text.specs.Bytes.{bytes};
 ghost use Rattle.text.specs.Text.{each_of};

@@ -1,4 +1,6 @@
 // The answer to candidates and tries: the paths, where they fit the output.
+#![tactic(auto)]
+
 ghost use Rattle.std.specs.Prelude.{◌≡◌, true, ◌≤◌, length};
 ghost use Rattle.mapping.specs.Asks.{config_at, Asks};
 ghost use Rattle.targets.specs.Targets.{Lists};

@@ -1,4 +1,6 @@
 // The rule of the items of include and exclude: what refusal 4 tests in a pattern.
+#![tactic(auto)]
+
 ghost use Rattle.std.specs.Prelude.{◌≡◌, true, not, eqb};
 ghost use Rattle.text.specs.Bytes.{star};
 ghost use Rattle.strings.specs.Scan.{tame_text};

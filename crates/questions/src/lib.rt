@@ -1,4 +1,6 @@
 // The questions, as C functions on numbers and byte slices.
+#![tactic(auto)]
+
 ghost use Rattle.std.specs.Prelude.{◌≡◌, true, ◌<◌, ◌≤◌, length};
 ghost use Rattle.rows.specs.Records.{Records, Paths, records_of};
 ghost use Rattle.replies.specs.Replies.{returned, numbers_of, Told};

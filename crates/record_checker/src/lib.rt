@@ -1,4 +1,6 @@
 // The check of a record: its commands in turn.
+#![tactic(auto)]
+
 ghost use Rattle.std.specs.Prelude.{◌≡◌, true, not, ◌&&◌, ◌+◌, ◌<◌, ◌≤◌, length, get_or, eqb, leb};
 ghost use Rattle.strings.specs.Scan.{tame_text};
 ghost use Rattle.book.specs.Command.{begin, end};

@@ -1,4 +1,6 @@
 // Reading a checked book: the records by their paths.
+#![tactic(auto)]
+
 ghost use Rattle.std.specs.Prelude.{◌≡◌, [], ◌++◌, ◌&&◌, ◌+◌, ◌-◌, ◌<◌, ◌≤◌, eqb, length, get_or};
 ghost use Rattle.text.specs.Text.{prefix_of, same_text, some_of};
 ghost use Rattle.names.specs.Names.{tsconfig_json};

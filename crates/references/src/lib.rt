@@ -1,4 +1,6 @@
 // The load of a config with its extends and its references.
+#![tactic(auto)]
+
 ghost use Rattle.std.specs.Prelude.{◌≡◌, ◌+◌, ◌*◌, ◌≤◌, length, get_or};
 ghost use Rattle.book.specs.Command.{reference};
 ghost use Rattle.book.specs.Record.{strings};

@@ -1,4 +1,6 @@
 // What is answered: the numbers returned, and bytes copied to the output.
+#![tactic(auto)]
+
 ghost use Rattle.std.specs.Prelude.{◌≡◌, [], ◌∷◌, ◌<◌, ◌≤◌, ◌^◌, length, take};
 ghost use Rattle.emit.specs.Emit.{Emits};
 ghost use Rattle.book.specs.Answer.{refused};

@@ -1,4 +1,6 @@
 // A path with its like in the other root dirs of a record.
+#![tactic(auto)]
+
 ghost use Rattle.std.proofs.Math.Option.{some};
 ghost use Rattle.std.specs.Prelude.{◌≤◌, length};
 ghost use Rattle.tsconfig.specs.Mapping.{in_roots, root_tries};

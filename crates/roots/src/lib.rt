@@ -1,4 +1,6 @@
 // The root dirs of a record, and the one that a path lies in.
+#![tactic(auto)]
+
 ghost use Rattle.roots.specs.Roots.{Rooted, BestRoot};
 
 use book::{ROOT_DIR, string_of};

@@ -1,4 +1,6 @@
 // Rows of suppliers: a merged config as 28 numbers, the record that supplies each field and the base, and the record itself.
+#![tactic(auto)]
+
 ghost use Rattle.std.specs.Prelude.{◌≡◌, ◌<◌, length, get_or, set};
 ghost use Rattle.book.specs.Index.{record_at};
 ghost use Rattle.rows.specs.Rows.{begin_at};

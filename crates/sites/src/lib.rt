@@ -1,4 +1,6 @@
 // The directory that a row's config is built in, and its built base.
+#![tactic(auto)]
+
 ghost use Rattle.std.specs.Prelude.{◌≡◌, ◌≤◌, length};
 ghost use Rattle.ends.specs.Ends.{parent_of};
 ghost use Rattle.emit.specs.Emit.{Holds};

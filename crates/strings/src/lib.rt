@@ -1,5 +1,7 @@
 // The rules of strings by their bytes: what refusal 4 tests in each string of a book, and 7 in a question. Each rule that looks at every byte
 // gathers its verdict by an or of bytes and never leaves early: such a loop works on many bytes at a time.
+#![tactic(auto)]
+
 ghost use Rattle.std.specs.Prelude.{◌≡◌, [], ◌∷◌, true, eqb};
 ghost use Rattle.text.specs.Bytes.{bytes};
 ghost use Rattle.text.specs.Text.{each_of};

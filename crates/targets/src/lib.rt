@@ -1,4 +1,6 @@
 // The targets of a key as they are built and written, and a specifier read from a base, in the layout of an answer.
+#![tactic(auto)]
+
 ghost use Rattle.std.specs.Prelude.{[], ◌∷◌, ◌+◌, ◌^◌, ◌≤◌, ◌<◌, length};
 ghost use Rattle.emit.specs.Emit.{Room, Emits};
 ghost use Rattle.join.specs.Join.{normalize_with};

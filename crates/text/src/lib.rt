@@ -1,4 +1,6 @@
 // Byte strings: equality, prefixes, searches and parts.
+#![tactic(auto)]
+
 ghost use Rattle.std.specs.Prelude.{◌≡◌, take, drop};
 ghost use Rattle.text.specs.Text.{prefix_of, same_text, find, star_of, find_last, between, before_byte, after_byte};
 

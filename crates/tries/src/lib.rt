@@ -1,5 +1,7 @@
 // The paths that a specifier is tried at from a directory: what the mapping gives and the specifier read from baseUrl, or, where it starts
 // with a dot, the path itself and its like in the other root dirs.
+#![tactic(auto)]
+
 ghost use Rattle.std.specs.Prelude.{◌≡◌, ◌≤◌, length};
 ghost use Rattle.join.specs.Join.{normalize_with};
 ghost use Rattle.tsconfig.specs.Config.{root_dirs};

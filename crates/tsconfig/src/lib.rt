@@ -1,1 +1,2 @@
 // A config: its definitions stand in specs/.
+#![tactic(auto)]

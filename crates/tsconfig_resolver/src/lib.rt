@@ -1,1 +1,2 @@
 // Loading configs: its definitions stand in specs/.
+#![tactic(auto)]

@@ -1,5 +1,7 @@
 // Usual commands, taken in passing where nothing is wrong with them: one that is a byte alone, a flag, a key, or, in a text that is known to be tame,
 // one with a string and those of its kind behind it. All else the record checker looks at: BEGIN, END, text options, and what is wrong.
+#![tactic(auto)]
+
 ghost use Rattle.std.specs.Prelude.{◌≡◌, List, true, not, ◌&&◌, cond, ℕ, ◌+◌, ◌≤◌, ◌<◌, length, get_or, set, drop, eqb};
 ghost use Rattle.strings.specs.Scan.{tame_text};
 ghost use Rattle.compare.specs.Compare.{digest_of};

@@ -1,4 +1,6 @@
 // The built forms of a record's strings, written to the start of lent buffers.
+#![tactic(auto)]
+
 ghost use Rattle.std.specs.Prelude.{◌≡◌, ◌+◌, ◌≤◌, length};
 ghost use Rattle.ends.specs.Ends.{parent_of};
 ghost use Rattle.emit.specs.Emit.{Holds};

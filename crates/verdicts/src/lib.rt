@@ -1,1 +1,2 @@
 // The verdict on a book: the laws that the record checker and the readers of an accepted book use, and worked examples.
+#![tactic(auto)]

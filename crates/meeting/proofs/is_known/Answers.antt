@@ -9,4 +9,4 @@ pub returns-then-not-is_marked : goal.returns-then-not-is_marked
 returns-then-not-is_marked c = sym (unmarked _ _ _ _ _ _ c.requires.marked.0 _ c.requires.mark_value (sym c.is_marked.ensures ∙ c.if-not-is_marked.true))
 
 pub is_met-requires : goal.is_met-requires
-is_met-requires c = (c.requires.table, (c.requires.marked.0, c.requires.mark_value))
+is_met-requires c = record { table = c.requires.table; marked = c.requires.marked.0; mark_value = c.requires.mark_value }

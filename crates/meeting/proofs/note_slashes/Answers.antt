@@ -35,4 +35,4 @@ pub shape_of-slashes : goal.shape_of-slashes
 shape_of-slashes c = c.loop-i.invariant.size ∙ sym c.requires.1.0
 
 pub returns : goal.returns
-returns c = (noting_clean _ _ _ _ _ _ c.loop-i.invariant (omega (arith, c.loop-i-test.false)), noting_done _ _ _ _ _ _ c.loop-i.invariant (omega (arith, c.loop-i-test.false)))
+returns c = record { j_value = noting_clean _ _ _ _ _ _ c.loop-i.invariant (omega (arith, c.loop-i-test.false)); by_index = noting_done _ _ _ _ _ _ c.loop-i.invariant (omega (arith, c.loop-i-test.false)) }

@@ -1,4 +1,3 @@
-use Prim.Native.Nat.{◌-◌}
 use mathlib.Core.Path.{sym, ◌∙◌}
 use Rattle.text.proofs.Scans.{find_here, find_on, find_end}
 use borrow.Author.Rules.{rules}

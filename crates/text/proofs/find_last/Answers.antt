@@ -1,4 +1,3 @@
-use Prim.Native.Nat.{◌-◌}
 use Rattle.text.proofs.Scans.{last_start, last_here, last_on, last_none}
 use borrow.Author.Rules.{rules}
 use Rattle.text.proofs.find_last.Goals as goal

@@ -1,4 +1,3 @@
-use Prim.Native.Nat.{◌-◌}
 use Rattle.text.proofs.Parts.{from_none, from_some}
 use borrow.Author.Rules.{rules}
 use Rattle.text.proofs.from.Goals as goal

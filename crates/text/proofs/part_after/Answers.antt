@@ -1,4 +1,3 @@
-use Prim.Native.Nat.{◌-◌}
 use mathlib.Core.Path.{sym, ◌∙◌}
 use Rattle.text.proofs.Parts.{after_none, after_at}
 use Rattle.text.proofs.Scans.{find_within}

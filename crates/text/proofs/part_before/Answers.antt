@@ -1,4 +1,3 @@
-use Prim.Native.Nat.{◌-◌}
 use mathlib.Core.Path.{◌∙◌}
 use Rattle.text.proofs.Parts.{before_all, before_at}
 use borrow.Author.Rules.{rules}

@@ -1,4 +1,3 @@
-use Prim.Native.Nat.{◌-◌}
 use mathlib.Core.Path.{sym, ◌∙◌}
 use Rattle.text.proofs.Scans.{same_length, same_prefix}
 use Rattle.text.proofs.same_text.Goals as goal

@@ -1,6 +1,4 @@
-use Prim.Native.Nat.{◌-◌}
 use mathlib.Core.Path.{sym}
-use mathlib.Core.Bool.{true}
 use lib.ListN.{length}
 use Rattle.text.proofs.Scans.{prefix_short, prefix_end, prefix_differs, prefix_back, prefix_whole}
 use native.Mathlib.Omega.{arith}

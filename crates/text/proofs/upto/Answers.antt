@@ -1,4 +1,3 @@
-use Prim.Native.Nat.{◌-◌}
 use mathlib.Core.Path.{sym}
 use Rattle.text.proofs.Parts.{upto_all}
 use lib.Seq.{length-take-le}
