@@ -10,7 +10,7 @@ pub returns-then-part-at : goal.returns-then-part-at
 returns-then-part-at c = none_there c.args.part.now c.args.at c.args.text.now c.args.counts.now c.args.ks.now c.args.kl.now c.args.km.now c.args.last c.if-part-at.true
 
 pub pass_key-requires : goal.pass_key-requires
-pass_key-requires c = ((omega (arith, c.if-part-at.false), (c.in-11.is, c.requires.counts_len)), c.requires.TODO)
+pass_key-requires c = record { at_in_bounds = (omega (arith, c.if-part-at.false), (c.in-11.is, c.requires.counts_len)); text_value = c.requires.text_value; ks_len = c.requires.ks_len; table = c.requires.table }
 
 pub pass_flag-requires : goal.pass_flag-requires
 pass_flag-requires c = (omega (arith, c.if-part-at.false), (c.in-18.is, c.requires.counts_len))
