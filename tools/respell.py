@@ -13,7 +13,7 @@ it is turned only where it is a field. Functions of src/, exported names and str
 import glob
 import re
 
-DECLARED = re.compile(r"^(\s*)(?:(?:pub|abbrev|unfoldable)\s+)*([^\s(){}.;,@\"«»:=]+)\s*:\s")
+DECLARED = re.compile(r"^(\s*)(?:(?:pub|abbrev|unfoldable)\s+)*([^\s(){}.;,@\"«»:=]+)\s*:(?:\s|$)")
 RECORD = re.compile(r"^(\s*)(?:pub\s+)?record\s+\S+")
 WORD = re.compile(r"[^\s(){}.;,@\"«»\[\]]+")
 OF_LIBRARY = re.compile(r"\buse\s+(?:Rattle\.(?:std|core|io|os|libc)\b|(?!Rattle\.)\w)[^\s{;]*\{([^}]*)\}")

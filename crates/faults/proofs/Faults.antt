@@ -91,7 +91,7 @@ module _ (text : Text) (count : ℕ → ℕ) (last n : ℕ) (keys paths : List T
       (λ b. let y : 4 ≡ 0 = rw (a, b) at z in absurd (omega (arith, y))))
       (λ a. let y : 3 ≡ 0 = rw a at z in absurd (omega (arith, y)))
 
-pub bad-string :
+pub bad_string :
     (text : Text) (count : ℕ → ℕ) (last n : ℕ) (keys paths : List Text) (c : Cmd) (r₁ : Bool) → r₁ ≡ in_order count last c → not r₁ ≡ false →
     (r₂ : Bool) → r₂ ≡ good_string text c → not r₂ ≡ true → 4 ≡ number (fault_of text count last n keys paths c)
-bad-string text count last n keys paths c r₁ d₁ e₁ r₂ d₂ e₂ = fault_string text count last n keys paths c r₁ d₁ (not-false r₁ e₁) r₂ d₂ (not-true r₂ e₂)
+bad_string text count last n keys paths c r₁ d₁ e₁ r₂ d₂ e₂ = fault_string text count last n keys paths c r₁ d₁ (not-false r₁ e₁) r₂ d₂ (not-true r₂ e₂)

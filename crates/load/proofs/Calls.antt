@@ -26,7 +26,7 @@ use Rattle.entries.specs.declared.Opening.TheVariants as opening
 use Rattle.tsconfig_resolver.specs.Load.{load}
 use Rattle.tsconfig_resolver.specs.Find.{seen}
 use Rattle.entries.proofs.Dirs.{few_records}
-use Rattle.load.proofs.Walks.{pending_falls, load_went, load-done}
+use Rattle.load.proofs.Walks.{pending_falls, load_went, load_done}
 
 -- a row merged with another
 pub record Merges (rs : List Parsed) (row far new : List ℕ) : Type 0 where
@@ -123,5 +123,5 @@ module _ (rs : List Parsed) (on : List Bool) (c : ℕ) (inside : c < length rs) 
   load_stored u h =
       let l : length row₂ ≡ 28 = walked.row.long in
       let z : 28 * c + 28 ≤ length t = omega (arith, walked.table.long, lt) in
-      load-done rs on c inside off n codes row o p k e long lt table m free short is row₂ t w q d f u (stored_length t c row₂ u l h ∙ walked.table.long) (stored_row t c row₂ u l h z)
+      load_done rs on c inside off n codes row o p k e long lt table m free short is row₂ t w q d f u (stored_length t c row₂ u l h ∙ walked.table.long) (stored_row t c row₂ u l h z)
       (stored_held t c row₂ u l h z walked.own lt) (stored_rows t c row₂ u l h) (stored_holders t c row₂ u l h)

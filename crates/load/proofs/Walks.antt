@@ -278,10 +278,10 @@ module _ (rs : List Parsed) (on : List Bool) (c : ℕ) (inside : c < length rs) 
           pub load_went : Went rs (set on c true) c (m + k + 8 * pending (set on c true) table) (walks rs (set on c true) c n codes k (config_of rs row) (state_of rs table m)) row₂ t d
           load_went = told_done rs (set on c true) c row₂ t (m + k + 8 * pending (set on c true) table) (walks rs (set on c true) c n codes k (config_of rs row) (state_of rs table m)) w d f taken
 
-          pub load-done :
+          pub load_done :
               (u : List ℕ) → length u ≡ 1792 → row_at u c ≡ row₂ → (holder u c ≡ absent → ⊥) → ((i : ℕ) → (i ≡ c → ⊥) → row_at u i ≡ row_at t i) → ((i : ℕ) → (i ≡ c → ⊥) → holder u i ≡ holder t i) →
               Went rs on c (m + 8 * pending on table) (load (seen rs) (on_of on) c (state_of rs table m)) (row_at u c) u d
-          load-done u l same held others holders = record {
+          load_done u l same held others holders = record {
             answer =
                 opens
                 ∙ ap (λ (z : Gives). z >>= λ v. done v.config (put c v.config v.state)) load_went.answer

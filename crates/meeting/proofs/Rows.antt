@@ -117,11 +117,11 @@ meet_never paths a b e =
     (λ y. let p : paths ≡ false = rw y at e in sym (meet_not paths a b p (eqb-false (length a) (length b) y)))
 
 -- a row that is passed over by its length and mark
-pub row-skip :
+pub row_skip :
     (paths : Bool) (s text starts lens marks : List ℕ) (n i : ℕ) → Table text starts lens n → Marked text starts lens marks n → 0 < i → i ≤ n →
     (mark : ℕ) → mark ≡ digest_of s → (r : Bool) → r ≡ cond (eqb (length s) (get_or lens (i - 1) 0)) (eqb mark (get_or marks (i - 1) 0)) paths → r ≡ false →
     some_of (meets paths s) (texts text starts lens i) ≡ some_of (meets paths s) (texts text starts lens (i - 1))
-row-skip paths s text starts lens marks n i t k h l mark m r d e =
+row_skip paths s text starts lens marks n i t k h l mark m r d e =
     let size : length (take (get_or lens (i - 1) 0) (drop (get_or starts (i - 1) 0) text)) ≡ get_or lens (i - 1) 0 =
     length-take-le _ _ (omega (arith, t.within (i - 1) (omega (arith, h, l)), length-drop (get_or starts (i - 1) 0) text)) in
     row_no (meets paths s) text starts lens i h (take (get_or lens (i - 1) 0) (drop (get_or starts (i - 1) 0) text)) refl

@@ -222,9 +222,9 @@ module _ (lengths slashes : List ℕ) (s : Text) (slashes' : List ℕ) (head : T
         }
 
     -- nothing stood against it
-    pub told-apart :
+    pub told_apart :
         length s ≤ 512 → ((j : ℕ) → j < length head → get_or head j 0 ≡ slash → get_or lengths j 0 ≡ 0) → get_or slashes' (length s) 0 ≡ 0 → eqb (get_or digests k 0) 0 ≡ true → Apart digests lengths slashes s mark
-    told-apart h u z e =
+    told_apart h u z e =
         let whole : head ≡ s = is ∙ take_all 513 s (omega (arith, h)) in
         record {
           short = omega (arith, h);

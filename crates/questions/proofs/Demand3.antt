@@ -16,7 +16,7 @@ use Rattle.tsconfig_resolver.specs.Line.{flat_line}
 use Rattle.tsconfig_resolver.specs.Load.{Loaded, load_asked}
 use Rattle.tsconfig_resolver.specs.Find.{Supplied, SuppliedValue, record_at, paths_of, reached, seen}
 use Rattle.tsconfig_resolver.specs.Project.{Project, site_at, references_of, load_record, load_found, load_path}
-use Rattle.tsconfig_resolver.proofs.Demand3.{line-rule}
+use Rattle.tsconfig_resolver.proofs.Demand3.{line_rule}
 use Rattle.tsconfig_resolver.proofs.Inside.{Fits, locate_below}
 use Rattle.questions.specs.Questions.{book}
 use Rattle.questions.specs.Demand3.{flat_site, Inherits}
@@ -43,7 +43,7 @@ made rs c p e =
 pub inherits : (rs : List Parsed) (c : ℕ) (p : Project) → c < length rs → load_record rs c ≡ given p → Inherits rs c p
 inherits rs c p lt e =
     let (x, e₁, s, m) = made rs c p e in
-    let r = line-rule rs c x lt e₁ in
+    let r = line_rule rs c x lt e₁ in
     let f : x.config ≡ flat_line (seen rs) c = r.output (λ y. y) in
     let q : p.site ≡ flat_site rs c = sym s ∙ ap (site_at rs c) f in
     record {
@@ -70,7 +70,7 @@ inherits_asked rs path p e = go (locate (paths_of rs) path) refl e
     go (some c) h e = (c, h, inherits rs c p (subst (λ o. Fits (length rs) (reached o)) h (locate_below rs path)) e)
 
 -- Demand 3, from the lent bytes on: for every book that is accepted and every asked path, if the load gives an answer.
-pub demand-3 :
+pub demand_3 :
     (commands text path : Text) (rs : List Parsed) (p : Project) → book commands text ≡ given rs → load_path rs path ≡ given p →
     (c : ℕ) × (locate (paths_of rs) path ≡ some c) × Inherits rs c p
-demand-3 commands text path rs p accepted loaded = inherits_asked rs path p loaded
+demand_3 commands text path rs p accepted loaded = inherits_asked rs path p loaded

@@ -131,10 +131,10 @@ module _ (commands text : Text) where
 
   -- What tsconfig_build promises
 
-  pub build-inherits :
+  pub build_inherits :
       (path : Text) (r : Numbers) (old new : Text) → Told (tsconfig_build commands text path (length old)) r old new → r.number ≡ 0 → BuildInherits rs path r old new
   unfolding tsconfig_build build
-  build-inherits path r old new t z =
+  build_inherits path r old new t z =
       let o = tsconfig_build commands text path (length old) in
       let (a, e) = answered o r (build_numbered commands text path (length old)) t.numbers z in
       let (qs, b, e₁) = then_given (book commands text) (λ x. build x (length old) path) e in
@@ -202,12 +202,12 @@ module _ (commands text : Text) where
         paths_inherit true path directory s r old new (subst (λ (o : Outcome). Told o r old new) e t) (subst Numbered e (tries_numbered commands text path directory s (length old))) z
 
   -- Where the specifier does not start with a dot and the directory is outside node_modules, the tries are the candidates and then the baseUrl path, if that is not among them
-  pub one-story :
+  pub one_story :
       (path directory s : Text) → inside_node_modules directory ≡ false → starts dot s ≡ false →
       (r : Numbers) (before new : Text) → Told (tsconfig_candidates commands text path s (length before)) r before new → r.number ≡ 0 →
       (q : Numbers) (old tried : Text) → Told (tsconfig_tries commands text path directory s (length old)) q old tried → q.number ≡ 0 →
       OneStory rs path s r new q old tried
-  one-story path directory s outside plain r before new t z q old tried u y =
+  one_story path directory s outside plain r before new t z q old tried u y =
       let c = candidates_inherit path s r before new t z in
       let d = tries_inherit path s q old tried directory u y in
       let k : d.config ≡ c.config = same_some (sym d.means ∙ c.means) in

@@ -39,10 +39,10 @@ module _ (part : Text) (base : ℕ) (text : Text) (ps pl : List ℕ) (n : ℕ) w
       is_key : eqb (operands 4 (drop at part)).op key ≡ true
       is_key = eq-eqb _ _ (sym (key_op part at text ns ks kl byte fine))
 
-      key-on :
+      key_on :
           Sofar part base text ps pl n (pushed ns (operands 4 (drop at part)) key) (get_or part at 0) (set ks (has ns key) (operands 4 (drop at part)).start) (set kl (has ns key) (operands 4 (drop at part)).len)
           (set km (has ns key) (digest_of (text_of text (operands 4 (drop at part))))) (has (pushed ns (operands 4 (drop at part)) key) key) (at + 5)
-      key-on =
+      key_on =
           subst
           (λ (p : ℕ). Sofar part base text ps pl n (pushed ns (operands 4 (drop at part)) key) (get_or part at 0) (set ks (has ns key) (operands 4 (drop at part)).start) (set kl (has ns key) (operands 4 (drop at part)).len)
           (set km (has ns key) (digest_of (text_of text (operands 4 (drop at part))))) (has (pushed ns (operands 4 (drop at part)) key) key) p)
@@ -58,7 +58,7 @@ module _ (part : Text) (base : ℕ) (text : Text) (ps pl : List ℕ) (n : ℕ) w
     pub moved_on : {ns' : List ℕ} {to : ℕ} {ks' kl' km' : List ℕ} → Taken part text ns last at ks kl km ns' to ks' kl' km' → at < to → Sofar part base text ps pl n ns' (get_or part at 0) ks' kl' km' (has ns' key) to
     moved_on (passed {counts' = ns'} {to = to} o p) h =
         subst (λ (l : ℕ). Sofar part base text ps pl n ns' l ks kl km (has ns' key) to) (rw (ne_eqb to at (λ e. absurd (omega (arith, e, h)))) refl) (passed_on p)
-    moved_on (keyed byte fine) h = key-on byte fine
+    moved_on (keyed byte fine) h = key_on byte fine
     moved_on (barred f) h = absurd (omega (arith, h))
 
     -- none was taken

@@ -128,9 +128,9 @@ module _ (text : Text) (starts : List ℕ) (n x k y m i : ℕ) where
   pub unlike_none : i ≤ n → Unlike text starts n x k y m i i
   unlike_none h = record { onward = omega arith; within = h; other = λ j h l e f. absurd (omega (arith, h, l)) }
 
-  pub unlike-on :
+  pub unlike_on :
       (j : ℕ) → Unlike text starts n x k y m i j → j < n → (b : Bool) → b ≡ (eqb (get_or text (get_or starts j 0 + k) 0) x && eqb (get_or text (get_or starts j 0 + m) 0) y) → b ≡ false → Unlike text starts n x k y m i (j + 1)
-  unlike-on j a l b d f =
+  unlike_on j a l b d f =
       record {
         onward = omega (arith, a.onward);
         within = omega (arith, l);

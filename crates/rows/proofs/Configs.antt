@@ -114,14 +114,14 @@ own_number c r row o = o.own
 -- Merged rows
 
 -- the base rule over tests: r, s that the nearer and the other lack baseUrl, t that the nearer lacks paths
-base-rule :
+base_rule :
     {X : Type 0} (g : ℕ → X) (r s t : Bool) (x y : ℕ) →
     g (cond r (cond s (cond t y x) y) x)
     ≡ Option.get_or (cond r none (some (g x)) or_else cond s none (some (g y))) (Option.get_or (cond t none (some (g x))) (g y))
-base-rule g false s t x y = refl
-base-rule g true false t x y = refl
-base-rule g true true false x y = refl
-base-rule g true true true x y = refl
+base_rule g false s t x y = refl
+base_rule g true false t x y = refl
+base_rule g true true false x y = refl
+base_rule g true true true x y = refl
 
 module _ (rs : List Parsed) (few : length rs ≤ 64) where
   module _ (row : List ℕ) (w : Row rs row) where
@@ -195,7 +195,7 @@ module _ (rs : List Parsed) (few : length rs ≤ 64) where
     unfolding config_of merge base_by slot
     merged_based =
         ap (λ (k : ℕ). ((seen rs).own k).base) merged_base
-        ∙ base-rule (λ k. ((seen rs).own k).base) (eqb (get_or a 3 absent) absent) (eqb (get_or b 3 absent) absent) (eqb (get_or a 4 absent) absent) (get_or a base_place absent) (get_or b base_place absent)
+        ∙ base_rule (λ k. ((seen rs).own k).base) (eqb (get_or a 3 absent) absent) (eqb (get_or b 3 absent) absent) (eqb (get_or a 4 absent) absent) (get_or a base_place absent) (get_or b base_place absent)
         ∙ sym (ap₂ Option.get_or (ap₂ (λ o p. o or_else p) (base_if_lem a v base_url) (base_if_lem b w base_url)) (ap (λ o. Option.get_or o ((seen rs).own (get_or b base_place absent)).base) (base_if_lem a v paths)))
 
     -- merged rows say the merged config

@@ -60,10 +60,10 @@ module _ (commands text : Text) (begins : List ℕ) (b : Records commands text b
         pub base_good : All (Good text) (record_at commands rec)
         base_good = subst (λ (i : ℕ). All (Good text) (record_at commands i)) (sym rec_is) (base_sound commands text begins b row w).each
 
-        pub base-held :
+        pub base_held :
             (out : Text) (k : ℕ) → Holds k out (substituted dir (own_base (parent_of (record_path_of text (record_at commands rec))) (single text command.base_url (record_at commands rec)))) →
             Holds k out (site_of (records_of commands text) row).config.base
-        base-held out k q =
+        base_held out k q =
             subst (Holds k out)
             (ap (λ (i : ℕ). substituted dir (own_base (parent_of (record_path_of text (record_at commands i))) (single text command.base_url (record_at commands i)))) rec_is
             ∙ sym (site_base commands text begins b row w dir as_read)) q

@@ -57,28 +57,28 @@ data Both {A R : Type 0} : Option A → Option R → Type 0 where
   each : (a : A) (r : R) → Both (some a) (some r)
 
 -- The merge's base: U, P are the bases of the first naming baseUrl and paths, there where the fields M, N are; L is the last's.
-base-merge :
+base_merge :
     {A C B : Type 0} {Mₐ Mᵦ : Option A} {N : Option C} {Uₐ Pₐ Uᵦ : Option B} →
     Both Mₐ Uₐ → Both N Pₐ → Both Mᵦ Uᵦ → (Pᵦ : Option B) (Lₐ Lᵦ : B) →
     get_or (Uₐ or_else Uᵦ) (get_or (Pₐ or_else Pᵦ) Lᵦ)
     ≡ get_or
     (Option.map (λ v. get_or Uₐ (get_or Pₐ Lₐ)) Mₐ or_else Option.map (λ v. get_or Uᵦ (get_or Pᵦ Lᵦ)) Mᵦ)
     (get_or (Option.map (λ v. get_or Uₐ (get_or Pₐ Lₐ)) N) (get_or Uᵦ (get_or Pᵦ Lᵦ)))
-base-merge (each a r) n u P L L' = refl
-base-merge neither n (each b t) P L L' = refl
-base-merge neither (each c p) neither P L L' = refl
-base-merge neither neither neither P L L' = refl
+base_merge (each a r) n u P L L' = refl
+base_merge neither n (each b t) P L L' = refl
+base_merge neither (each c p) neither P L L' = refl
+base_merge neither neither neither P L L' = refl
 
-both-or :
+both_or :
     {A R : Type 0} (o : Option A) (r : R) {p : Option A} {q : Option R} → Both p q →
     Both (o or_else p) (Option.map (λ v. r) o or_else q)
-both-or (some a) r h = each a r
-both-or none r h = h
+both_or (some a) r h = each a r
+both_or none r h = h
 
 module _ {Val : Field → Type 0} {B : Type 0} where
   both : (f : Field) (l : List (Config Val B)) → Both (first (λ d. d.named f) l) (first (base_if f) l)
   both f [] = neither
-  both f (c ∷ l) = both-or (c.named f) c.base (both f l)
+  both f (c ∷ l) = both_or (c.named f) c.base (both f l)
 
   module _ (x : Config Val B) (xs : List (Config Val B)) (y : Config Val B) (ys : List (Config Val B)) where
     base_append : (flat x (xs ++ y ∷ ys)).base ≡ (merge (flat x xs) (flat y ys)).base
@@ -89,7 +89,7 @@ module _ {Val : Field → Type 0} {B : Type 0} where
           first_append (base_if paths) (x ∷ xs) (y ∷ ys),
           last_append x xs y ys,
         )
-        (base-merge (both base_url (x ∷ xs)) (both paths (x ∷ xs)) (both base_url (y ∷ ys)) (first (base_if paths) (y ∷ ys)) (last x xs).base
+        (base_merge (both base_url (x ∷ xs)) (both paths (x ∷ xs)) (both base_url (y ∷ ys)) (first (base_if paths) (y ∷ ys)) (last x xs).base
         (last y ys).base)
 
     -- a line, and one after it

@@ -19,18 +19,18 @@ use Rattle.tsconfig.proofs.Flat.{first_map, last_map, bracket}
 use Rattle.tsconfig_resolver.proofs.Load.{map_append, whole}
 
 module _ {Val : Field → Type 0} {B : Type 0} (b : Configs Val B) where
-  joins-leaves :
+  joins_leaves :
       (up : ℕ → List ℕ) (w : ℕ → Tree (Config Val B)) → ((p : ℕ) → leaves (w p) ≡ map b.own (p ∷ up p)) →
       (ps : List ℕ) (t : Tree (Config Val B)) → leaves (joins b t w ps) ≡ leaves t ++ map b.own (lines up ps)
-  joins-leaves up w h [] t = sym (append-nil (leaves t))
-  joins-leaves up w h (p ∷ ps) t =
-      joins-leaves up w h ps (join t (w p)) ∙ append_assoc (leaves t) (leaves (w p)) (map b.own (lines up ps))
+  joins_leaves up w h [] t = sym (append-nil (leaves t))
+  joins_leaves up w h (p ∷ ps) t =
+      joins_leaves up w h ps (join t (w p)) ∙ append_assoc (leaves t) (leaves (w p)) (map b.own (lines up ps))
       ∙ ap (leaves t ++◌) (ap (◌++ map b.own (lines up ps)) (h p) ∙ sym (map_append b.own (p ∷ up p) (lines up ps)))
 
   own_leaves : (k c : ℕ) → leaves (own_way b k c) ≡ map b.own (c ∷ rest b k c)
   unfolding own_way rest
   own_leaves zero c = refl
-  own_leaves (suc k) c = joins-leaves (rest b k) (own_way b k) (own_leaves k) (parents b c) (leaf (b.own c))
+  own_leaves (suc k) c = joins_leaves (rest b k) (own_way b k) (own_leaves k) (parents b c) (leaf (b.own c))
 
   flat_field : (c : ℕ) (f : Field) → (flat_line b c).named f ≡ first (λ i. (b.own i).named f) (line b c)
   unfolding flat
@@ -45,10 +45,10 @@ module _ {Val : Field → Type 0} {B : Type 0} (b : Configs Val B) where
       ap₂ get_or (first_map b.own (base_if base_url) (line b c))
       (ap₂ get_or (first_map b.own (base_if paths) (line b c)) (ap (λ d. d.base) (last_map b.own c (above b c))))
 
-  pub demand-3 :
+  pub demand_3 :
       ((c p : ℕ) → Memᴰ p (parents b c) → p < b.size) → (c : ℕ) (r : Loaded Val B) → c < b.size → load_asked b c ≡ given r →
       LineRule b c r
-  demand-3 inside c r lt q =
+  demand_3 inside c r lt q =
       let w = whole b inside c r lt q in
       let e : r.config ≡ flat_line b c = w.flattened in
       record {
@@ -64,7 +64,7 @@ module _ {Val : Field → Type 0} {B : Type 0} (b : Configs Val B) where
       }
 
 -- The same of a list of parsed records, each value beside its supplier, with nothing left to assume: entries lead to records of the list.
-pub line-rule :
+pub line_rule :
     (rs : List Parsed) (c : ℕ) (r : Loaded SuppliedValue (Supplied Text)) → c < length rs → load_asked (seen rs) c ≡ given r →
     LineRule (seen rs) c r
-line-rule rs = demand-3 (seen rs) (inside rs)
+line_rule rs = demand_3 (seen rs) (inside rs)

@@ -59,14 +59,14 @@ module _ {Val : Field → Type 0} {B : Type 0} (b : Configs Val B) where
 
   -- The number never runs out: from the records not on the chain on, any number loads alike. So 64 does, where the book has at most 64.
   module _ (inside : (c p : ℕ) → Memᴰ p (parents b c) → p < b.size) where
-    fresh-same :
+    fresh_same :
         (k : ℕ) (chain : ℕ → Bool) (c : ℕ) (s : State Val B) → c < b.size → free b chain ≤ suc k →
         ((p : ℕ) (t : State Val B) → p < b.size → free b (add c chain) ≤ k → load_by b k (add c chain) p t ≡ load b (add c chain) p t) →
         (a : Bool) → chain c ≡ a →
         unless (cond a (some 9) (unread (b.entries c))) c (fresh b (load_by b k (add c chain)) c) s
         ≡ unless (cond a (some 9) (unread (b.entries c))) c (fresh b (load b (add c chain)) c) s
-    fresh-same k chain c s lt le ih true e = refl
-    fresh-same k chain c s lt le ih false e =
+    fresh_same k chain c s lt le ih true e = refl
+    fresh_same k chain c s lt le ih false e =
         ap (λ f. unless (unread (b.entries c)) c f s)
         (fun_ext λ t.
         ap (λ a. a >>= λ r. done r.config (put c r.config r.state))
@@ -77,4 +77,4 @@ module _ {Val : Field → Type 0} {B : Type 0} (b : Configs Val B) where
     unfolding load load_by
     enough zero chain c s lt le = let e : 0 ≡ free b chain = omega arith in ap (λ k. load_by b k chain c s) e
     enough (suc k) chain c s lt le =
-        fresh-same k chain c s lt le (λ p t lt' le'. enough k (add c chain) p t lt' le') (chain c) refl ∙ sym (load_law chain c s lt)
+        fresh_same k chain c s lt le (λ p t lt' le'. enough k (add c chain) p t lt' le') (chain c) refl ∙ sym (load_law chain c s lt)

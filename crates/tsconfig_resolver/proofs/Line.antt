@@ -26,14 +26,14 @@ never_true true h = absurd (h refl)
 never_true false h = refl
 
 -- a record of the lines of some records is one of these, or stands above one
-lines-elem :
+lines_elem :
     {X : Type 0} (up : ℕ → List ℕ) (j : ℕ) (ps : List ℕ) → elem j (lines up ps) ≡ true →
     ((p : ℕ) → Memᴰ p ps → j ≡ p → X) → ((p : ℕ) → Memᴰ p ps → elem j (up p) ≡ true → X) → X
-lines-elem up j [] e f g = absurd (false≢true e)
-lines-elem up j (p ∷ ps) e f g =
+lines_elem up j [] e f g = absurd (false≢true e)
+lines_elem up j (p ∷ ps) e f g =
     either (eqb j p) (elem j (up p ++ lines up ps)) e (λ k. f p (Memᴰ.head refl) (eqb-true j p k))
     (λ k. either (elem j (up p)) (elem j (lines up ps)) (sym (elem_append j (up p) (lines up ps)) ∙ k) (g p (Memᴰ.head refl))
-    (λ l. lines-elem up j ps l (λ q m. f q (Memᴰ.tail m)) (λ q m. g q (Memᴰ.tail m))))
+    (λ l. lines_elem up j ps l (λ q m. f q (Memᴰ.tail m)) (λ q m. g q (Memᴰ.tail m))))
 
 module _ {Val : Field → Type 0} {B : Type 0} (b : Configs Val B) where
   -- each way up from the record by extends ends in fewer than k steps
@@ -64,9 +64,9 @@ module _ {Val : Field → Type 0} {B : Type 0} (b : Configs Val B) where
   above_within : (k h c j : ℕ) → Within (suc h) c → elem j (rest b k c) ≡ true → Within h j
   unfolding rest
   above_within zero h c j w e = absurd (false≢true e)
-  above_within (suc k) zero c j w e = lines-elem (rest b k) j (parents b c) e (λ p m q. absurd (w p m)) (λ p m q. absurd (w p m))
+  above_within (suc k) zero c j w e = lines_elem (rest b k) j (parents b c) e (λ p m q. absurd (w p m)) (λ p m q. absurd (w p m))
   above_within (suc k) (suc h) c j w e =
-      lines-elem (rest b k) j (parents b c) e (λ p m q. rw q (w p m)) (λ p m q. within_more h (suc h) j (omega arith) (above_within k h p j (w p m) q))
+      lines_elem (rest b k) j (parents b c) e (λ p m q. rw q (w p m)) (λ p m q. within_more h (suc h) j (omega arith) (above_within k h p j (w p m) q))
 
   circle : (h k c : ℕ) → Within h c → elem c (rest b k c) ≡ true → ⊥
   circle zero k c w e = w
@@ -76,13 +76,13 @@ module _ {Val : Field → Type 0} {B : Type 0} (b : Configs Val B) where
   no_circle h k c w = never_true (elem c (rest b k c)) (circle h k c w)
 
   -- every record of a line is the book's
-  lines-below :
+  lines_below :
       (n : ℕ) (up : ℕ → List ℕ) → ((p : ℕ) → Below n (up p)) → (ps : List ℕ) → ((p : ℕ) → Memᴰ p ps → p < n) → Below n (lines up ps)
-  lines-below n up h [] m = tt
-  lines-below n up h (p ∷ ps) m =
-      (m p (Memᴰ.head refl), below_append n (up p) (lines up ps) (h p) (lines-below n up h ps (λ q k. m q (Memᴰ.tail k))))
+  lines_below n up h [] m = tt
+  lines_below n up h (p ∷ ps) m =
+      (m p (Memᴰ.head refl), below_append n (up p) (lines up ps) (h p) (lines_below n up h ps (λ q k. m q (Memᴰ.tail k))))
 
   pub rest_below : ((c p : ℕ) → Memᴰ p (parents b c) → p < b.size) → (k c : ℕ) → Below b.size (rest b k c)
   unfolding rest
   rest_below inside zero c = tt
-  rest_below inside (suc k) c = lines-below b.size (rest b k) (rest_below inside k) (parents b c) (inside c)
+  rest_below inside (suc k) c = lines_below b.size (rest b k) (rest_below inside k) (parents b c) (inside c)

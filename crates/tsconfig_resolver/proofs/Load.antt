@@ -140,10 +140,10 @@ module _ {Val : Field → Type 0} {B : Type 0} (b : Configs Val B) where
       one p s ≡ given r → Gives chain p s r
 
   -- the parent is in the table
-  step-held :
+  step_held :
       (chain : ℕ → Bool) (p : ℕ) (s : State Val B) → Sound s.table → Clear chain s.table → has (s.table p) ≡ true →
       Step chain s s (line b p) 0
-  step-held chain p s h k m =
+  step_held chain p s h k m =
       record {
         sound = h;
         clear = k;
@@ -155,13 +155,13 @@ module _ {Val : Field → Type 0} {B : Type 0} (b : Configs Val B) where
       in_line i true e q = rw (eqb-true i p e) m
       in_line i false e q = h.closed p i m q
 
-  parent-step :
+  parent_step :
       (chain : ℕ → Bool) (one : ℕ → State Val B → Answer (Loaded Val B)) → Loads chain one → (p : ℕ) (s : State Val B) (r : Loaded Val B) →
       p < b.size → Sound s.table → Clear chain s.table → (o : Option (Config Val B)) → s.table p ≡ o → recall o (one p) s ≡ given r →
       Gives chain p s r
-  parent-step chain one ld p s r lt h k (some y) e q =
-      subst (Gives chain p s) (given_same q) (h.value p y e, step-held chain p s h k (ap has e))
-  parent-step chain one ld p s r lt h k none e q = ld p s r lt h k (ap has e) q
+  parent_step chain one ld p s r lt h k (some y) e q =
+      subst (Gives chain p s) (given_same q) (h.value p y e, step_held chain p s h k (ap has e))
+  parent_step chain one ld p s r lt h k none e q = ld p s r lt h k (ap has e) q
 
   -- nothing done
   step_none : (chain : ℕ → Bool) (s : State Val B) → Sound s.table → Clear chain s.table → Step chain s s [] 0
@@ -197,7 +197,7 @@ module _ {Val : Field → Type 0} {B : Type 0} (b : Configs Val B) where
   walk_step chain one ld c (missing ∷ es) lt pre x s e h k r q = absurd (refused_given q)
   walk_step chain one ld c (leads p ∷ es) lt pre x s e h k r q =
       let (v, q₁, q₂) = then_given (recall (s.table p) (one p) s) (λ v. walk one c es (merge x v.config) (counted v.state)) q in
-      let (zs, st) = parent-step chain one ld p s v (lt p (Memᴰ.head refl)) h k (s.table p) refl q₁ in
+      let (zs, st) = parent_step chain one ld p s v (lt p (Memᴰ.head refl)) h k (s.table p) refl q₁ in
       let now : merge x v.config ≡ flat (b.own c) (map b.own (pre ++ line b p)) =
       ap₂ merge e zs ∙ sym (flat_append (b.own c) (map b.own pre) (b.own p) (map b.own (above b p)))
       ∙ ap (flat (b.own c)) (sym (map_append b.own pre (line b p)))
@@ -248,17 +248,17 @@ module _ {Val : Field → Type 0} {B : Type 0} (b : Configs Val B) where
     put_short p true e q = rw (eqb-true p c e, put_held) self_within
     put_short p false e q = within_more b (held t.table) (held (put c x t).table) p (omega (arith, put_held)) (w.sound.short p q)
 
-    put-closed :
+    put_closed :
         (p i : ℕ) (a : Bool) → eqb p c ≡ a → a || has (t.table p) ≡ true → elem i (above b p) ≡ true → has (t.table i) ≡ true
-    put-closed p i true e q m = parents_in i (ap (elem i) (sym self_above) ∙ (rw (eqb-true p c e) at m))
-    put-closed p i false e q m = w.sound.closed p i q m
+    put_closed p i true e q m = parents_in i (ap (elem i) (sym self_above) ∙ (rw (eqb-true p c e) at m))
+    put_closed p i false e q m = w.sound.closed p i q m
 
     put_sound : Sound (put c x t).table
     put_sound =
         record {
           value = λ p y q. put_value p y (eqb p c) refl q;
           short = λ p q. put_short p (eqb p c) refl (sym (put_has p) ∙ q);
-          closed = λ p i q m. put_has i ∙ or_right (eqb i c) (put-closed p i (eqb p c) refl (sym (put_has p) ∙ q) m);
+          closed = λ p i q m. put_has i ∙ or_right (eqb i c) (put_closed p i (eqb p c) refl (sym (put_has p) ∙ q) m);
         }
 
     put_clear : (i : ℕ) → chain i ≡ true → has ((put c x t).table i) ≡ false
@@ -281,11 +281,11 @@ module _ {Val : Field → Type 0} {B : Type 0} (b : Configs Val B) where
         }
 
   -- the chain with c on it is clear too
-  clear-add :
+  clear_add :
       (chain : ℕ → Bool) (c : ℕ) (t : Table) → Clear chain t → has (t c) ≡ false → (i : ℕ) (a : Bool) → eqb i c ≡ a → a || chain i ≡ true →
       has (t i) ≡ false
-  clear-add chain c t k out i true e m = rw (eqb-true i c e) out
-  clear-add chain c t k out i false e m = k i m
+  clear_add chain c t k out i true e m = rw (eqb-true i c e) out
+  clear_add chain c t k out i false e m = k i m
 
   pub start_sound : Sound (λ i. none)
   start_sound =
@@ -315,7 +315,7 @@ module _ {Val : Field → Type 0} {B : Type 0} (b : Configs Val B) where
     fresh_step chain one c ld s r v lt off h n out q e =
         let (xs, w) =
         walk_step (add c chain) one ld c (reverse (b.entries c)) (inside c) [] (b.own c) s (sym (flat_one (b.own c))) h
-        (λ i m. clear-add chain c s.table n out i (eqb i c) refl m) v q
+        (λ i m. clear_add chain c s.table n out i (eqb i c) refl m) v q
         in
         subst (Gives chain c s) (given_same e)
         (self_value chain c s v.state v.config lt off xs w, put_step chain c s v.state v.config lt off xs w)

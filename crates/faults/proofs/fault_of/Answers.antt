@@ -1,7 +1,7 @@
 use mathlib.Core.Path.{refl, sym, ◌∙◌}
 use mathlib.Core.Bool.{true, false}
 use Rattle.faults.proofs.Keeps.{in_slot, many_any}
-use Rattle.faults.proofs.Faults.{out_of_order, bad-string, fault_many, fault_path, fault_none}
+use Rattle.faults.proofs.Faults.{out_of_order, bad_string, fault_many, fault_path, fault_none}
 use borrow.Author.Rules.{rules}
 use Rattle.faults.proofs.fault_of.Goals as goal
 
@@ -9,7 +9,7 @@ pub returns-then-not-in_order : goal.returns-then-not-in_order
 returns-then-not-in_order c = search (rules, out_of_order)
 
 pub returns-then-not-good_string : goal.returns-then-not-good_string
-returns-then-not-good_string c = search (rules, bad-string)
+returns-then-not-good_string c = search (rules, bad_string)
 
 pub is_too_many-requires : goal.is_too_many-requires
 is_too_many-requires c = let s = in_slot _ _ _ (sym c.in_order.ensures ∙ c.if-not-in_order.false) _ c.requires.op_bound.1.0 in (c.requires.op_bound.0, (s.0, (s.1, c.requires.op_bound.1.1)))

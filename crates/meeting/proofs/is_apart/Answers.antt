@@ -1,7 +1,7 @@
 use mathlib.Core.Path.{sym, ap, ◌∙◌}
 use mathlib.Core.Bool.{true≢false}
 use lib.ListN.{length, length-take}
-use Rattle.meeting.proofs.Signs.{noted_long, noted_short, told-apart}
+use Rattle.meeting.proofs.Signs.{noted_long, noted_short, told_apart}
 use native.Mathlib.Omega.{arith}
 use Rattle.meeting.proofs.is_apart.Goals as goal
 
@@ -18,4 +18,4 @@ pub returns-then-slashes-size-ne0 : goal.returns-then-slashes-size-ne0
 returns-then-slashes-size-ne0 c = record { apart = λ y. absurd (true≢false (sym y)); noted = noted_short _ _ _ _ _ c.upto.ensures c.note_slashes-lone.ensures.by_index _ _ _ c.wide-k.ensures.0 c.wide-k.ensures.1 c.requires (c.note_slashes-lone.auto.slashes ∙ c.requires.1.1) c.if-size-gt-LONGEST.false }
 
 pub returns : goal.returns
-returns c = record { apart = λ y. told-apart _ _ _ c.note_slashes-lone.new.slashes _ c.upto.ensures c.note_slashes-lone.ensures.by_index _ _ _ c.wide-k.ensures.0 c.wide-k.ensures.1 c.requires (c.note_slashes-lone.auto.slashes ∙ c.requires.1.1) c.if-size-gt-LONGEST.false (c.note_slashes-lone.ensures.j_value c.if-not-lone.false) c.if-slashes-size-ne0.false y; noted = noted_short _ _ _ _ _ c.upto.ensures c.note_slashes-lone.ensures.by_index _ _ _ c.wide-k.ensures.0 c.wide-k.ensures.1 c.requires (c.note_slashes-lone.auto.slashes ∙ c.requires.1.1) c.if-size-gt-LONGEST.false }
+returns c = record { apart = λ y. told_apart _ _ _ c.note_slashes-lone.new.slashes _ c.upto.ensures c.note_slashes-lone.ensures.by_index _ _ _ c.wide-k.ensures.0 c.wide-k.ensures.1 c.requires (c.note_slashes-lone.auto.slashes ∙ c.requires.1.1) c.if-size-gt-LONGEST.false (c.note_slashes-lone.ensures.j_value c.if-not-lone.false) c.if-slashes-size-ne0.false y; noted = noted_short _ _ _ _ _ c.upto.ensures c.note_slashes-lone.ensures.by_index _ _ _ c.wide-k.ensures.0 c.wide-k.ensures.1 c.requires (c.note_slashes-lone.auto.slashes ∙ c.requires.1.1) c.if-size-gt-LONGEST.false }

@@ -1,5 +1,5 @@
 use mathlib.Core.Path.{refl, sym, ◌∙◌}
-use Rattle.meeting.proofs.Rows.{row_yes, row_no, row_none, row-skip}
+use Rattle.meeting.proofs.Rows.{row_yes, row_no, row_none, row_skip}
 use native.Mathlib.Omega.{arith}
 use Rattle.meeting.proofs.is_met.Goals as goal
 
@@ -22,7 +22,7 @@ pub loop-i-smaller-then-not-may_meet : goal.loop-i-smaller-then-not-may_meet
 loop-i-smaller-then-not-may_meet c = omega arith
 
 pub loop-i-preserved-then-not-may_meet : goal.loop-i-preserved-then-not-may_meet
-loop-i-preserved-then-not-may_meet c = (omega arith, c.loop-i.invariant.1 ∙ row-skip c.args.paths c.args.s.now c.args.text.now c.args.starts.now c.args.lens.now c.args.marks.now c.args.n _ c.requires.table c.requires.marked c.loop-i-test.true c.loop-i.invariant.0 _ c.requires.mark_value _ c.may_meet.ensures c.if-not-may_meet.true)
+loop-i-preserved-then-not-may_meet c = (omega arith, c.loop-i.invariant.1 ∙ row_skip c.args.paths c.args.s.now c.args.text.now c.args.starts.now c.args.lens.now c.args.marks.now c.args.n _ c.requires.table c.requires.marked c.loop-i-test.true c.loop-i.invariant.0 _ c.requires.mark_value _ c.may_meet.ensures c.if-not-may_meet.true)
 
 pub offset_bounds-starts-i : goal.offset_bounds-starts-i
 offset_bounds-starts-i c = omega (arith, c.requires.table.small)

@@ -1,5 +1,5 @@
 use Prim.Native.Nat.{◌-◌}
-use Rattle.records.proofs.Paths.{unlike_none, unlike-on}
+use Rattle.records.proofs.Paths.{unlike_none, unlike_on}
 use native.Mathlib.Omega.{arith}
 use Rattle.records.proofs.next_like.Goals as goal
 
@@ -37,7 +37,7 @@ pub loop-j-smaller : goal.loop-j-smaller
 loop-j-smaller c = omega arith
 
 pub loop-j-preserved : goal.loop-j-preserved
-loop-j-preserved c = unlike-on c.args.text.now c.args.starts.now _ c.args.x c.args.k c.args.y c.args.m _ _ c.loop-j.invariant c.loop-j-test.true _ c.agrees.ensures c.if-agrees.false
+loop-j-preserved c = unlike_on c.args.text.now c.args.starts.now _ c.args.x c.args.k c.args.y c.args.m _ _ c.loop-j.invariant c.loop-j-test.true _ c.agrees.ensures c.if-agrees.false
 
 pub returns : goal.returns
 returns c = c.loop-j.invariant

@@ -1,4 +1,4 @@
-use Rattle.sites.proofs.Laws.{ask_base, base_there, base_good, site_dir_short, base-held}
+use Rattle.sites.proofs.Laws.{ask_base, base_there, base_good, site_dir_short, base_held}
 use borrow.Author.Rules.{rules}
 use native.Mathlib.Omega.{arith}
 use borrow.Author.Rules.{rules}
@@ -32,7 +32,7 @@ same_length : tie.Need-same-length
 same_length c = search rules
 
 returns-2 : tie.Need-returns-2
-returns-2 c = let a = c.before.before.before.before.before.before.before.before.before.before.before.before.before.before.args in base-held a.commands.now a.text.now a.begins.now c.before.before.before.before.before.before.before.before.before.before.before.before.before.before.requires.0.0 a.row.now c.before.before.before.before.before.before.before.before.before.before.before.before.before.before.requires.0.1 _ c.before.before.before.before.before.before.before.before.site-dir.ensures _ c.before.before.before.before.before.before.before.begin-at.ensures _ c.before.before.before.before.before.rec.given.1 _ _ c.before.before.base-at.ensures
+returns-2 c = let a = c.before.before.before.before.before.before.before.before.before.before.before.before.before.before.args in base_held a.commands.now a.text.now a.begins.now c.before.before.before.before.before.before.before.before.before.before.before.before.before.before.requires.0.0 a.row.now c.before.before.before.before.before.before.before.before.before.before.before.before.before.before.requires.0.1 _ c.before.before.before.before.before.before.before.before.site-dir.ensures _ c.before.before.before.before.before.before.before.begin-at.ensures _ c.before.before.before.before.before.rec.given.1 _ _ c.before.before.base-at.ensures
 
 pub site-base-spec : {M : Type 1} → statement M
 site-base-spec =

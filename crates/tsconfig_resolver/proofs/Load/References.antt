@@ -30,11 +30,11 @@ module _ {Val : Field → Type 0} {B : Type 0} (b : Configs Val B) (inside : (c 
         tally_add (λ i. 1) (λ i. has (t.table i)) r e b.size lt,
       )) (λ p k. h.short p (m p k))
 
-  pub refer-flat :
+  pub refer_flat :
       (c p : ℕ) (s : State Val B) (r : Loaded Val B) → p < b.size → Sound b s.table → refer b c p s ≡ given r →
       (r.config ≡ flat_line b p) × Sound b r.state.table
   unfolding load
-  refer-flat c p s r lt h q =
+  refer_flat c p s r lt h q =
       let go : State Val B → Answer (Loaded Val B) = walk (load b (λ i. false)) p (reverse (b.entries p)) (b.own p) in
       let (not-self, q₁) = unless_given (cond (eqb p c) (some 10) none) c (unless (unread (b.entries p)) p go) s q in
       let (read, q₂) = unless_given (unread (b.entries p)) p go s q₁ in
