@@ -6,7 +6,7 @@ use mathlib.Core.Option.{Option, some, none, map}
 use Prim.Native.Nat.{ℕ}
 use lib.ListN.{get_or}
 use Rattle.text.specs.Bytes.{Text}
-use Rattle.tsconfig.specs.Config.{Field, base_url, paths, ◌orElse◌, first, base_if}
+use Rattle.tsconfig.specs.Config.{Field, base_url, paths, ◌or_else◌, first, base_if}
 use Rattle.tsconfig.specs.Parsed.{Value, Parsed}
 use Rattle.tsconfig_resolver.specs.Line.{line}
 use Rattle.tsconfig_resolver.specs.Load.{Loaded}

@@ -18,7 +18,7 @@ use Rattle.book.specs.declared.Cmd.{Cmd}
 use Rattle.book.specs.Record.{record_path_of}
 use Rattle.book.specs.Index as index
 use Rattle.book.specs.Sound.{Sound}
-use Rattle.tsconfig.specs.Config.{Field, base_url, paths, merge, ◌orElse◌, base_if}
+use Rattle.tsconfig.specs.Config.{Field, base_url, paths, merge, ◌or_else◌, base_if}
 use Rattle.tsconfig.specs.Parsed.{Parsed, parsed, parse, said, placed_value}
 use Rattle.tsconfig_resolver.specs.Find.{record_at, seen, blank}
 use Rattle.rows.specs.Rows.{absent, slot, base_place, supplier, number_of, config_of, Row}

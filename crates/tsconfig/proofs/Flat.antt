@@ -4,7 +4,7 @@ use mathlib.Core.Path.{◌≡◌, refl, sym, ap, ap₂, ◌∙◌}
 use mathlib.Core.List.{List, [], ◌∷◌, ◌++◌, map}
 use mathlib.Core.Option
 use mathlib.Core.Option.{Option, some, none, get_or}
-use Rattle.tsconfig.specs.Config.{Field, base_url, paths, Config, ◌orElse◌, first, last, base_if, merge, flat}
+use Rattle.tsconfig.specs.Config.{Field, base_url, paths, Config, ◌or_else◌, first, last, base_if, merge, flat}
 use Rattle.tsconfig.specs.Bracket.{Tree, leaf, join, leaves, eval}
 
 or_else_assoc : {A : Type 0} (o p q : Option A) → (o or_else p) or_else q ≡ o or_else p or_else q
@@ -13,7 +13,7 @@ or_else_assoc none p q = refl
 
 pub first_append : {A R : Type 0} (g : A → Option R) (xs ys : List A) → first g (xs ++ ys) ≡ first g xs or_else first g ys
 first_append g [] ys = refl
-first_append g (x ∷ xs) ys = ap (g x orElse◌) (first_append g xs ys) ∙ sym (or_else_assoc (g x) (first g xs) (first g ys))
+first_append g (x ∷ xs) ys = ap (g x or_else◌) (first_append g xs ys) ∙ sym (or_else_assoc (g x) (first g xs) (first g ys))
 
 last_append : {A : Type 0} (x : A) (xs : List A) (y : A) (ys : List A) → last x (xs ++ y ∷ ys) ≡ last y ys
 last_append x [] y ys = refl
@@ -21,7 +21,7 @@ last_append x (z ∷ xs) y ys = last_append z xs y ys
 
 pub first_map : {A C R : Type 0} (f : A → C) (g : C → Option R) (l : List A) → first g (map f l) ≡ first (λ a. g (f a)) l
 first_map f g [] = refl
-first_map f g (a ∷ l) = ap (g (f a) orElse◌) (first_map f g l)
+first_map f g (a ∷ l) = ap (g (f a) or_else◌) (first_map f g l)
 
 pub last_map : {A C : Type 0} (f : A → C) (a : A) (l : List A) → last (f a) (map f l) ≡ f (last a l)
 last_map f a [] = refl

@@ -6,7 +6,7 @@ use mathlib.Core.List.{List, [], ◌∷◌, map}
 use mathlib.Core.Option
 use mathlib.Core.Option.{Option, some, none, get_or}
 use Rattle.tsconfig.proofs.Flat.{last_map}
-use Rattle.tsconfig.specs.Config.{Field, base_url, paths, Config, ◌orElse◌, first, last, base_if, merge, flat, mapped}
+use Rattle.tsconfig.specs.Config.{Field, base_url, paths, Config, ◌or_else◌, first, last, base_if, merge, flat, mapped}
 
 map_or_else : {A C : Type 0} (g : A → C) (o p : Option A) → Option.map g (o or_else p) ≡ Option.map g o or_else Option.map g p
 map_or_else g (some a) p = refl
@@ -24,7 +24,7 @@ map_const g h none d = refl
 map_first : {A C R S : Type 0} (f : A → C) (g : R → S) (k : A → Option R) (l : C → Option S) → ((a : A) → Option.map g (k a) ≡ l (f a)) →
     (xs : List A) → Option.map g (first k xs) ≡ first l (map f xs)
 map_first f g k l h [] = refl
-map_first f g k l h (a ∷ xs) = map_or_else g (k a) (first k xs) ∙ ap₂ ◌orElse◌ (h a) (map_first f g k l h xs)
+map_first f g k l h (a ∷ xs) = map_or_else g (k a) (first k xs) ∙ ap₂ ◌or_else◌ (h a) (map_first f g k l h xs)
 
 module _ {Val Wal : Field → Type 0} {B C : Type 0} (g : (f : Field) → Val f → Wal f) (h : B → C) where
   map_base : (f : Field) (c : Config Val B) → Option.map h (base_if f c) ≡ base_if f (mapped g h c)
@@ -36,7 +36,7 @@ module _ {Val Wal : Field → Type 0} {B C : Type 0} (g : (f : Field) → Val f 
   merge_base x y =
       map_get_d h (base_if base_url x or_else base_if base_url y) (get_or (base_if paths x) y.base)
       ∙ ap₂ get_or
-      (map_or_else h (base_if base_url x) (base_if base_url y) ∙ ap₂ ◌orElse◌ (map_base base_url x) (map_base base_url y))
+      (map_or_else h (base_if base_url x) (base_if base_url y) ∙ ap₂ ◌or_else◌ (map_base base_url x) (map_base base_url y))
       (map_get_d h (base_if paths x) y.base ∙ ap (λ o. get_or o (h y.base)) (map_base paths x))
 
   pub map_merge : (x y : Config Val B) → mapped g h (merge x y) ≡ merge (mapped g h x) (mapped g h y)

@@ -14,10 +14,10 @@ pub record Config (Val : Field → Type 0) (B : Type 0) : Type 0 where
   pub base : B
 
 -- the first answer, if there is one, else the other
-infixr 40 ◌orElse◌
-abbrev pub ◌orElse◌ : {A : Type 0} → Option A → Option A → Option A
-◌orElse◌ (some a) o = some a
-◌orElse◌ none o = o
+infixr 40 ◌or_else◌
+abbrev pub ◌or_else◌ : {A : Type 0} → Option A → Option A → Option A
+◌or_else◌ (some a) o = some a
+◌or_else◌ none o = o
 
 -- what the first of the list to answer g says
 abbrev pub first : {A R : Type 0} → (A → Option R) → List A → Option R

@@ -71,10 +71,10 @@ off_chain true o e = cc
 off_chain false o e = refl
 
 -- a parent stands in its own line
-lines_mem : (u : ℕ → List ℕ) (ps : List ℕ) (p : ℕ) → Memᴰ p ps → elem p (lines u ps) ≡ true
-lines_mem u ps p (Memᴰ.head {x = q} e) = or_left _ (eq-eqb p q e)
-lines_mem u ps p (Memᴰ.tail {x = q} {xs = qs} m) =
-    or_right (eqb p q) (elem_append p (u q) (lines u qs) ∙ or_right (elem p (u q)) (lines_mem u qs p m))
+lines_mem : (u : ℕ → List ℕ) (p : ℕ) (ps : List ℕ) → Memᴰ p ps → elem p (lines u ps) ≡ true
+lines_mem u p ps (Memᴰ.head {x = q} e) = or_left _ (eq-eqb p q e)
+lines_mem u p ps (Memᴰ.tail {x = q} {xs = qs} m) =
+    or_right (eqb p q) (elem_append p (u q) (lines u qs) ∙ or_right (elem p (u q)) (lines_mem u p qs m))
 
 pub map_append : {A C : Type 0} (f : A → C) (xs ys : List A) → map f (xs ++ ys) ≡ map f xs ++ map f ys
 map_append f [] ys = refl
@@ -230,7 +230,7 @@ module _ {Val : Field → Type 0} {B : Type 0} (b : Configs Val B) where
     parents_in i m = w.domain i ∙ or_right (has (s.table i)) m
 
     self_within : Within b (suc (held t.table)) c
-    self_within p m = w.sound.short p (parents_in p (lines_mem (above b) (parents b c) p m))
+    self_within p m = w.sound.short p (parents_in p (lines_mem (above b) p (parents b c) m))
 
     self_above : above b c ≡ lines (above b) (parents b c)
     self_above =
