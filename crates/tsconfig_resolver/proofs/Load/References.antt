@@ -43,7 +43,7 @@ module _ {Val : Field → Type 0} {B : Type 0} (b : Configs Val B) (inside : (c 
       (b.own p) s (sym (flat_one (b.own p))) h (λ i m. absurd (false≢true m)) r q₂
       in
       let in_table : (i : ℕ) → Memᴰ i (parents b p) → has (r.state.table i) ≡ true =
-      λ i k. st.domain i ∙ or_right (has (s.table i)) (lines_mem (above b) (parents b p) i k)
+      λ i k. st.domain i ∙ or_right (has (s.table i)) (lines_mem (above b) i (parents b p) k)
       in (
         xs ∙ ap (λ l. flat (b.own p) (map b.own l)) (sym (unrolls p r.state lt st.sound in_table (has (r.state.table p)) refl)),
         st.sound,
