@@ -9,7 +9,7 @@ use lib.ListN.{length, get_or, drop, length-drop}
 use lib.Seq.{drop-cons, get_or-drop}
 use lib.Dec.{eqb}
 use lib.Bits.{bit_or, bit_and, bit_xor}
-use borrow.Author.Tests.{eqb-true, eq-eqb, ne_eqb}
+use borrow.Author.Tests.{eqb-true, ne_eqb}
 use Rattle.text.specs.Bytes.{Text, slash, star}
 use Rattle.text.specs.Text.{prefix_of, same_text, each_of}
 use Rattle.components.specs.Components.{split, on_first}

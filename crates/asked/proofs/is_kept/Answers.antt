@@ -1,5 +1,4 @@
 use mathlib.Core.Path.{refl, sym, ◌∙◌}
-use Prim.Native.Nat.{◌-◌}
 use native.Mathlib.Omega.{arith}
 use Rattle.asked.proofs.Filled.{kept_on, kept_not, kept_end}
 use Rattle.asked.proofs.is_kept.Goals as goal

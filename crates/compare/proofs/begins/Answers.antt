@@ -1,4 +1,3 @@
-use Prim.Native.Nat.{◌-◌}
 use mathlib.Core.Path.{refl}
 use Rattle.compare.proofs.Ways.{ahead_step, ahead_end}
 use native.Mathlib.Omega.{arith}

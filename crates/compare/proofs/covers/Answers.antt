@@ -1,4 +1,3 @@
-use Prim.Native.Nat.{◌-◌}
 use Rattle.compare.proofs.Ways.{over_short, over_same, over_other, over_under}
 use native.Mathlib.Omega.{arith}
 use Rattle.compare.proofs.covers.Goals as goal

@@ -1,5 +1,4 @@
 use mathlib.Core.Path.{refl}
-use Prim.Native.Nat.{◌-◌}
 use Rattle.compare.proofs.Ways.{mix_step, mix_end}
 use Rattle.compare.proofs.mix.Goals as goal
 

@@ -1,4 +1,3 @@
-use Prim.Native.Nat.{◌-◌}
 use Rattle.components.proofs.Components.{next_is, count_start, count_end, count_on, count_less}
 use native.Mathlib.Omega.{arith}
 use Rattle.component_walk.proofs.count_components.Goals as goal

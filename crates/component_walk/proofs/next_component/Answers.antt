@@ -1,4 +1,3 @@
-use Prim.Native.Nat.{◌-◌}
 use mathlib.Core.Path.{◌∙◌}
 use Rattle.components.proofs.Components.{here_low, next_here, next_end, next_on}
 use native.Mathlib.Omega.{arith}

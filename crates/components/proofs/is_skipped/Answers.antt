@@ -1,4 +1,3 @@
-use Prim.Native.Nat.{◌-◌}
 use mathlib.Core.Path.{sym, ap, ◌∙◌}
 use Rattle.components.specs.Components.{is_skip}
 use Rattle.components.proofs.is_skipped.Goals as goal

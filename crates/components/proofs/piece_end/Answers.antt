@@ -1,4 +1,3 @@
-use Prim.Native.Nat.{◌-◌}
 use Rattle.components.proofs.Pieces.{end_past, end_last, end_slash, end_within}
 use native.Mathlib.Omega.{arith}
 use borrow.Author.Rules.{rules}

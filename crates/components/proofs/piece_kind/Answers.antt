@@ -1,4 +1,3 @@
-use Prim.Native.Nat.{◌-◌}
 use Rattle.components.proofs.Pieces.{piece_none, piece_long, piece_name, piece_dot, piece_dot_name, piece_up}
 use native.Mathlib.Omega.{arith}
 use Rattle.components.proofs.piece_kind.Goals as goal

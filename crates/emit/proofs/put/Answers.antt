@@ -1,4 +1,3 @@
-use Prim.Native.Nat.{◌-◌}
 use Rattle.emit.proofs.Emits.{put_in, put_out}
 use borrow.Author.Rules.{rules}
 use Rattle.emit.proofs.put.Goals as goal

@@ -1,4 +1,3 @@
-use Prim.Native.Nat.{◌-◌}
 use borrow.Author.Rules.{rules}
 use Rattle.emit.proofs.Emits.{emits_out, bytes_all, bytes_step, bytes_end}
 use Rattle.emit.proofs.put_text.Goals as goal

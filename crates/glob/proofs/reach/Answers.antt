@@ -1,6 +1,4 @@
-use borrow.Author.Tests.{not-true, not-false}
 use Rattle.glob.proofs.Fronts.{ahead_start, byte_short, byte_other, byte_on, end_yes, end_no}
-use Prim.Native.Nat.{◌-◌}
 use Rattle.glob.proofs.reach.Goals as goal
 
 pub loop-i-init : goal.loop-i-init

@@ -1,5 +1,4 @@
 use Rattle.glob.proofs.Tries.{skip_start, skip_on}
-use Prim.Native.Nat.{◌-◌}
 use Rattle.glob.proofs.skip.Goals as goal
 
 pub loop-j-init : goal.loop-j-init

@@ -1,4 +1,3 @@
-use Prim.Native.Nat.{◌-◌}
 use mathlib.Core.Path.{◌∙◌}
 use Rattle.join.proofs.Plain.{plain_none, plain_not, plain_start, after_pass, after_on, after_not, after_last}
 use native.Mathlib.Omega.{arith}

@@ -1,4 +1,3 @@
-use Prim.Native.Nat.{◌-◌}
 use mathlib.Core.Path.{◌∙◌}
 use Rattle.join.proofs.Walk.{text_room, piece_le, norm_nil, norm_abs, plain_room, norm_plain, walks_start, step_room, walks_on, walks_end}
 use native.Mathlib.Omega.{arith}

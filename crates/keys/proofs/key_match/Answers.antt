@@ -1,4 +1,3 @@
-use Prim.Native.Nat.{◌-◌}
 use mathlib.Core.Path.{◌∙◌}
 use Rattle.keys.proofs.Laws.{star_in, none_told, none_part, miss_told, miss_part, match_told, match_part, suffix_fits}
 use native.Mathlib.Omega.{arith}

@@ -1,4 +1,3 @@
-use Prim.Native.Nat.{◌-◌}
 use Rattle.keys.proofs.Laws.{short_suffix, short_prefix, other_prefix, both}
 use Rattle.keys.proofs.matches_at.Goals as goal
 

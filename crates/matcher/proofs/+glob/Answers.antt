@@ -1,5 +1,4 @@
 use mathlib.Core.Path.{sym, ◌∙◌}
-use Prim.Native.Nat.{◌-◌}
 use native.Mathlib.Omega.{arith}
 use Rattle.glob.specs.declared.Verdict.TheVariants.{Never, Stop, Later}
 use Rattle.glob.proofs.Fronts.{is_known, is_star, is_stars, leads_falls, leads_whole}

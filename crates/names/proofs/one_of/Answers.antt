@@ -1,4 +1,3 @@
-use Prim.Native.Nat.{◌-◌}
 use Rattle.names.proofs.Names.{some_1, some_2, some_3, some_4}
 use borrow.Author.Rules.{rules}
 use Rattle.names.proofs.one_of.Goals as goal

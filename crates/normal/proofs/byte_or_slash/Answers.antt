@@ -1,4 +1,3 @@
-use Prim.Native.Nat.{◌-◌}
 use Rattle.normal.proofs.Names.{byte_in, byte_out}
 use Rattle.normal.proofs.byte_or_slash.Goals as goal
 

@@ -1,5 +1,4 @@
 use mathlib.Core.Path.{refl}
-use Prim.Native.Nat.{◌-◌}
 use Rattle.normal.proofs.Names.{ends_step, ends_pass, ends_all}
 use native.Mathlib.Omega.{arith}
 use Rattle.normal.proofs.ends_in_names.Goals as goal

@@ -1,4 +1,3 @@
-use Prim.Native.Nat.{◌-◌}
 use mathlib.Core.Path.{refl}
 use Rattle.normal.proofs.Names.{names_first, names_second, names_third, names_step, names_none, names_rest}
 use native.Mathlib.Omega.{arith}

@@ -1,4 +1,3 @@
-use Prim.Native.Nat.{◌-◌}
 use Rattle.path.proofs.Normal.{normal_not, normal_root}
 use Rattle.normal.proofs.Names.{normal_names}
 use Rattle.normal.proofs.is_normal.Goals as goal

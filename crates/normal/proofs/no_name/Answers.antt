@@ -1,4 +1,3 @@
-use Prim.Native.Nat.{◌-◌}
 use Rattle.normal.proofs.Names.{name_flag}
 use Rattle.normal.proofs.no_name.Goals as goal
 

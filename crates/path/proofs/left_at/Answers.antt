@@ -1,4 +1,3 @@
-use Prim.Native.Nat.{◌-◌}
 use mathlib.Core.Path.{◌∙◌}
 use Rattle.components.proofs.Components.{next_is}
 use Rattle.path.proofs.Under.{left_done, left_short, left_other, left_on}

@@ -1,4 +1,3 @@
-use Prim.Native.Nat.{◌-◌}
 use mathlib.Core.Path.{refl}
 use Rattle.normal.proofs.Names.{names_second, names_third}
 use Rattle.path_rules.proofs.Places.{block_fourth, block_step, block_end}

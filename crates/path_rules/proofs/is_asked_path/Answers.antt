@@ -1,4 +1,3 @@
-use Prim.Native.Nat.{◌-◌}
 use Rattle.path_rules.proofs.Ways.{asked_string, asked_mark, asked_on}
 use Rattle.path_rules.proofs.is_asked_path.Goals as goal
 

@@ -1,4 +1,3 @@
-use Prim.Native.Nat.{◌-◌}
 use Rattle.path_rules.proofs.Ways.{lead_other, lead_root}
 use Rattle.path_rules.proofs.obeys_lead.Goals as goal
 

@@ -1,4 +1,3 @@
-use Prim.Native.Nat.{◌-◌}
 use Rattle.patterns.proofs.Stars.{crowd_flag}
 use Rattle.patterns.proofs.crowd.Goals as goal
 

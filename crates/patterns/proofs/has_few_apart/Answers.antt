@@ -1,5 +1,4 @@
 use mathlib.Core.Path.{refl, sym, ◌∙◌}
-use Prim.Native.Nat.{◌-◌}
 use Rattle.patterns.proofs.Stars.{apart_pass, apart_fine, apart_bad, apart_last}
 use native.Mathlib.Omega.{arith}
 use Rattle.patterns.proofs.has_few_apart.Goals as goal

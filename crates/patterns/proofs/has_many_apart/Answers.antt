@@ -1,4 +1,3 @@
-use Prim.Native.Nat.{◌-◌}
 use mathlib.Core.Path.{refl}
 use Rattle.patterns.proofs.Stars.{apart_first, apart_second, apart_step, apart_end}
 use native.Mathlib.Omega.{arith}

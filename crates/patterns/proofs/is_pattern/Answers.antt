@@ -1,4 +1,3 @@
-use Prim.Native.Nat.{◌-◌}
 use Rattle.patterns.proofs.Ways.{pattern_after, pattern_whole}
 use Rattle.patterns.proofs.is_pattern.Goals as goal
 

@@ -1,4 +1,3 @@
-use Prim.Native.Nat.{◌-◌}
 use Rattle.patterns.proofs.Ways.{pattern_bracket, pattern_stars}
 use Rattle.patterns.proofs.is_pattern_text.Goals as goal
 

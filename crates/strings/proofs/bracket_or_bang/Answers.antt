@@ -1,4 +1,3 @@
-use Prim.Native.Nat.{◌-◌}
 use mathlib.Core.Path.{◌∙◌}
 use Rattle.strings.proofs.Gather.{one_last, one_more, bracket_bytes}
 use Rattle.strings.proofs.bracket_or_bang.Goals as goal

@@ -1,4 +1,3 @@
-use Prim.Native.Nat.{◌-◌}
 use Rattle.strings.proofs.Rules.{string_long, string_on}
 use Rattle.strings.proofs.is_string.Goals as goal
 

@@ -1,5 +1,4 @@
 use Rattle.strings.proofs.Tame.{tame_told}
-use Prim.Native.Nat.{◌-◌}
 use mathlib.Core.Path.{refl}
 use native.Mathlib.Omega.{arith}
 use Rattle.strings.specs.Scan.{tame_byte}

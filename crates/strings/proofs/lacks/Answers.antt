@@ -1,4 +1,3 @@
-use Prim.Native.Nat.{◌-◌}
 use mathlib.Core.Path.{refl}
 use Rattle.strings.proofs.Gather.{each_step, each_end}
 use native.Mathlib.Omega.{arith}

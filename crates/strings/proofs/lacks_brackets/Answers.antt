@@ -1,4 +1,3 @@
-use Prim.Native.Nat.{◌-◌}
 use mathlib.Core.Path.{refl}
 use Rattle.strings.specs.Strings.{none_of}
 use Rattle.text.specs.Bytes.{bytes}

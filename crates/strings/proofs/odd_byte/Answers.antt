@@ -1,4 +1,3 @@
-use Prim.Native.Nat.{◌-◌}
 use Rattle.strings.proofs.Rules.{odd_low, odd_high, odd_on}
 use Rattle.strings.proofs.odd_byte.Goals as goal
 

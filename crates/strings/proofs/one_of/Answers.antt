@@ -1,4 +1,3 @@
-use Prim.Native.Nat.{◌-◌}
 use Rattle.strings.proofs.Gather.{one_last, one_more}
 use Rattle.strings.proofs.one_of.Goals as goal
 
