@@ -184,7 +184,7 @@ def scratch_repository(scratch):
     """A copy of the crates, with nothing to prove in the crate `cases` but what a run writes."""
     crates = os.path.join(scratch, 'crates')
     shutil.rmtree(crates, ignore_errors=True)
-    shutil.copytree(CRATES, crates, ignore=shutil.ignore_patterns('must-fail'))
+    shutil.copytree(CRATES, crates, ignore=shutil.ignore_patterns('must-fail', 'out'))
     shutil.copy(os.path.join(ROOT, 'crates.txt'), scratch)
     cases = os.path.join(crates, 'cases')
     shutil.rmtree(os.path.join(cases, 'proofs'), ignore_errors=True)
@@ -201,7 +201,8 @@ def check(scratch, path, books, limit=None):
     """The theorems that are not proved, by name, with the first words on each, and the seconds taken."""
     write(path, 'A run.', books)
     start = time.time()
-    done = subprocess.run(['timeout', str(limit or 0), 'rt', 'check', 'cases'], cwd=scratch, stdout=subprocess.PIPE, stderr=subprocess.STDOUT, env=dict(os.environ, RT_CUT='400'))
+    cases = os.path.join(scratch, 'crates', 'cases')
+    done = subprocess.run(['timeout', str(limit or 0), 'rt', 'check'], cwd=cases, stdout=subprocess.PIPE, stderr=subprocess.STDOUT)
     took = time.time() - start
     if done.returncode == 0:
         return {}, took
