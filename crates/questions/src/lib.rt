@@ -116,12 +116,7 @@ fn build(
 }
 
 // B: the config that a path means, merged with what it extends and built, as lines; its record and the merges made.
-pub fn tsconfig_build(
-    commands: &[u8],
-    text: &[u8],
-    path: &[u8],
-    out: &mut [u8],
-) -> Numbers
+pub fn tsconfig_build(commands: &[u8], text: &[u8], path: &[u8], out: &mut [u8]) -> Numbers
     ensures { Told (tsconfig_build commands.now text.now path.now (length out.old)) result out.old out.new }
 {
     let mut begins = [0usize; 64];
