@@ -6,9 +6,9 @@ ghost use Rattle.std.proofs.Math.Option.{none};
 ghost use Rattle.text.specs.Bytes.{slash, dot};
 ghost use Rattle.ends.specs.Ends.{parent_of};
 ghost use Rattle.join.specs.Join.{normalize_with, push_of};
-ghost use Rattle.book.specs.Find.{find, locate as locateOf};
+ghost use Rattle.book.specs.Find.{find, locate as locate_of};
 ghost use Rattle.records.specs.Paths.{path_table, found_number};
-ghost use Rattle.tsconfig_resolver.specs.Load.{unread as unreadOf};
+ghost use Rattle.tsconfig_resolver.specs.Load.{unread as unread_of};
 ghost use Rattle.rows.specs.Records.{records_of};
 ghost use Rattle.entries.specs.Codes.{is_beside, entry_of, entry_at, refusal_of, Codes, EntriesPre};
 ghost use Rattle.entries.specs.Opens.{Opens, OpenPre};
@@ -86,7 +86,7 @@ fn find_short(
     s: &[u8],
 ) -> Found
     requires { (n ≤ length starts.now) × ((n ≤ length lens.now) × (length dir.now + length s.now < 128)) }
-    ensures { found_number result ≡ locateOf (path_table text.now starts.now lens.now n) (normalize_with dir.now s.now) }
+    ensures { found_number result ≡ locate_of (path_table text.now starts.now lens.now n) (normalize_with dir.now s.now) }
 {
     let mut buffer = [0u8; 128];
     let k = normalize_with(dir, s, &mut buffer);
@@ -104,7 +104,7 @@ pub fn find_meant(
     s: &[u8],
 ) -> Found
     requires { (n ≤ length starts.now) × ((n ≤ length lens.now) × ((length dir.now ≤ 512) × (length s.now ≤ 512))) }
-    ensures { found_number result ≡ locateOf (path_table text.now starts.now lens.now n) (normalize_with dir.now s.now) }
+    ensures { found_number result ≡ locate_of (path_table text.now starts.now lens.now n) (normalize_with dir.now s.now) }
 {
     let beside = find_beside(text, starts, lens, n, dir, s);
     match beside {
@@ -161,7 +161,7 @@ fn entry_code(text: &[u8], starts: &[usize], lens: &[usize], n: usize, dir: &[u8
 // The number of the refusal of an entry that is refused as it is read, or 0.
 fn entry_fault(e: u8, n: usize) -> u32
     requires { n ≤ 64 }
-    ensures { refusal_of result ≡ unreadOf (entry_of n e ∷ []) }
+    ensures { refusal_of result ≡ unread_of (entry_of n e ∷ []) }
 {
     if (e as usize) < n {
         return 0;
@@ -178,7 +178,7 @@ fn entry_fault(e: u8, n: usize) -> u32
 // The number of the refusal of the first of k entries that is refused as it is read, or 0.
 fn unread(codes: &[u8], n: usize, k: usize) -> u32
     requires { (n ≤ 64) × (k ≤ length codes.now) }
-    ensures { refusal_of result ≡ unreadOf (map (entry_of n) (take k codes.now)) }
+    ensures { refusal_of result ≡ unread_of (map (entry_of n) (take k codes.now)) }
 {
     let mut j = 0;
     while j < k {

@@ -3,7 +3,6 @@
 
 ghost use Rattle.std.specs.Prelude.{◌≡◌, [], suc, ◌-◌, ◌<◌, length};
 ghost use Rattle.std.proofs.Math.Option.{get_or};
-ghost use Rattle.text.specs.Text.{between as betweenOf};
 ghost use Rattle.keys.specs.Keys.{suffix, matches_at, key_part, is_match};
 
 use text::{Found, between, find_star, from, same_text, starts_with, upto};

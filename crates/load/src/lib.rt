@@ -7,7 +7,7 @@ ghost use Rattle.tsconfig_resolver.specs.Find.{seen};
 ghost use Rattle.rows.specs.Rows.{config_of, row_at};
 ghost use Rattle.rows.specs.Records.{records_of};
 ghost use Rattle.entries.specs.Codes.{entry_of};
-ghost use Rattle.load.specs.Loads.{on_of, state_of, pending, Tells, LoadPre, WalkPre, BringPre, walks as walksOf};
+ghost use Rattle.load.specs.Loads.{on_of, state_of, pending, Tells, LoadPre, WalkPre, BringPre, walks as walks_of};
 
 use entries::{BARE, EMPTY, MISSING, Opening, open_record};
 use merge::{merge_row, store_row};
@@ -92,7 +92,7 @@ pub fn walk(
     m: usize,
 ) -> Told
     requires { WalkPre commands.now text.now begins.now starts.now lens.now n table.old on c codes.now k row.old m }
-    ensures { Tells (records_of commands.now text.now) on c (m + k + 8 * pending on table.old) (walksOf (records_of commands.now text.now) on c n codes.now k (config_of (records_of commands.now text.now) row.old) (state_of (records_of commands.now text.now) table.old m)) row.new table.new result }
+    ensures { Tells (records_of commands.now text.now) on c (m + k + 8 * pending on table.old) (walks_of (records_of commands.now text.now) on c n codes.now k (config_of (records_of commands.now text.now) row.old) (state_of (records_of commands.now text.now) table.old m)) row.new table.new result }
 {
     if k == 0 {
         return Told::Done(m);

@@ -4,9 +4,9 @@
 ghost use Rattle.std.specs.Prelude.{◌≡◌, ◌+◌, ◌*◌, ◌≤◌, length, get_or};
 ghost use Rattle.book.specs.Command.{reference};
 ghost use Rattle.book.specs.Record.{strings};
-ghost use Rattle.book.specs.Index.{record_at as recordCommands};
+ghost use Rattle.book.specs.Index.{record_at as record_commands};
 ghost use Rattle.tsconfig_resolver.specs.Find.{seen, meant};
-ghost use Rattle.tsconfig_resolver.specs.References.{refer as referOf};
+ghost use Rattle.tsconfig_resolver.specs.References.{refer as refer_of};
 ghost use Rattle.tsconfig_resolver.specs.Project.{refer_to, references_of};
 ghost use Rattle.rows.specs.Rows.{row_at};
 ghost use Rattle.rows.specs.Records.{records_of};
@@ -43,7 +43,7 @@ fn refer(
     m: usize,
 ) -> Told
     requires { ReferPre commands.now text.now begins.now starts.now lens.now n table.old r row.old m }
-    ensures { Tells (records_of commands.now text.now) nobody r (m + 8 + 8 * pending nobody table.old) (referOf (seen (records_of commands.now text.now)) c r (state_of (records_of commands.now text.now) table.old m)) row.new table.new result }
+    ensures { Tells (records_of commands.now text.now) nobody r (m + 8 + 8 * pending nobody table.old) (refer_of (seen (records_of commands.now text.now)) c r (state_of (records_of commands.now text.now) table.old m)) row.new table.new result }
 {
     if r == c {
         return Told::Refused(10, c);
@@ -111,7 +111,7 @@ fn load_references(
     m: usize,
 ) -> Told
     requires { ReferencesPre commands.now text.now begins.now starts.now lens.now n table.old c refs.old m }
-    ensures { Lists (records_of commands.now text.now) (references_of (records_of commands.now text.now) c (strings text.now reference (recordCommands commands.now (get_or begins.now c 0))) (state_of (records_of commands.now text.now) table.old m)) refs.new result }
+    ensures { Lists (records_of commands.now text.now) (references_of (records_of commands.now text.now) c (strings text.now reference (record_commands commands.now (get_or begins.now c 0))) (state_of (records_of commands.now text.now) table.old m)) refs.new result }
 {
     let mut at = begins[c];
     let mut j = 0;

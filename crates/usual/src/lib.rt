@@ -127,7 +127,7 @@ fn pass_run(part: &[u8], at: usize, text: &[u8], counts: &mut [u8], last: u8, op
 }
 
 // Counts a command that comes once, by its slot, where it comes for the first time in a record that has begun.
-fn is_counted(counts: &mut [u8], k: usize) -> bool
+fn is_slot_counted(counts: &mut [u8], k: usize) -> bool
     requires { (k < 39) × (length counts.old ≡ 39) }
     ensures value { result ≡ (not (eqb (has counts.old begin) 0) && eqb (has counts.old k) 0) }
     ensures counts_after { counts.new ≡ cond (not (eqb (has counts.old begin) 0) && eqb (has counts.old k) 0) (set counts.old k 1) counts.old }
@@ -141,6 +141,16 @@ fn is_counted(counts: &mut [u8], k: usize) -> bool
     }
     counts[k] = 1;
     true
+}
+
+// Counts a command that is a byte alone, where it comes for the first time in a record that has begun.
+fn is_counted(counts: &mut [u8], op: u8) -> bool
+    requires { (op < 21) × (length counts.old ≡ 39) }
+    ensures value { result ≡ (not (eqb (has counts.old begin) 0) && eqb (has counts.old op) 0) }
+    ensures counts_after { counts.new ≡ cond (not (eqb (has counts.old begin) 0) && eqb (has counts.old op) 0) (set counts.old op 1) counts.old }
+{
+    let k = wide(op);
+    is_slot_counted(counts, k)
 }
 
 // Takes the flag at the offset, where its id and its value are in range and it comes for the first time. The offset after it.
@@ -160,7 +170,7 @@ fn pass_flag(part: &[u8], at: usize, counts: &mut [u8]) -> usize
         return at;
     }
     let i = wide(id);
-    if is_counted(counts, FLAG_SLOTS + i) {
+    if is_slot_counted(counts, FLAG_SLOTS + i) {
         return at + FLAG_STRIDE;
     }
     at
@@ -243,8 +253,7 @@ pub fn pass(
         KEY => pass_key(tame, part, at, text, counts, ks, kl, km),
         FLAG => pass_flag(part, at, counts),
         FILES | INCLUDE | EXCLUDE | PATHS | ROOT_DIRS => {
-            let k = wide(op);
-            if is_counted(counts, k) {
+            if is_counted(counts, op) {
                 return at + 1;
             }
             at

@@ -1,3 +1,4 @@
+use mathlib.Core.Path.{refl}
 use lib.ListN.{get_or}
 use Rattle.usual.specs.Usual.{passed}
 use Rattle.usual.proofs.Passing.{lone_small, lone_on, once_not, stay}
@@ -16,10 +17,10 @@ pub pass_flag-requires : goal.pass_flag-requires
 pass_flag-requires c = (omega (arith, c.if-part-at.false), (c.in-18.is, c.requires.counts_len))
 
 pub is_counted-requires : goal.is_counted-requires
-is_counted-requires c = (omega (arith, lone_small _ c.in-2.is, c.wide-k.ensures.0), c.requires.counts_len)
+is_counted-requires c = (omega (arith, lone_small _ c.in-2.is), c.requires.counts_len)
 
 pub returns-then-is_counted : goal.returns-then-is_counted
-returns-then-is_counted c = passed (lone_no_key _ c.in-2.is) (lone_on c.args.part.now c.args.text.now c.args.counts.now c.args.last c.args.at _ _ c.is_counted.ensures.value _ c.is_counted.ensures.counts_after c.if-is_counted.true c.if-part-at.false c.wide-k.ensures.0 c.in-2.is)
+returns-then-is_counted c = passed (lone_no_key _ c.in-2.is) (lone_on c.args.part.now c.args.text.now c.args.counts.now c.args.last c.args.at _ _ c.is_counted.ensures.value _ c.is_counted.ensures.counts_after c.if-is_counted.true c.if-part-at.false refl c.in-2.is)
 
 pub returns-then-not-tame : goal.returns-then-not-tame
 returns-then-not-tame c = passed c.in_default.in_default-own.rest.0.0.1 (stay c.args.part.now c.args.text.now c.args.counts.now c.args.last c.args.at (get_or c.args.part.now c.args.at 0))

@@ -25,11 +25,11 @@ bounds-part-at-2 c = omega (arith, c.if-part-at-lt-FLAG_STRIDE.false)
 pub returns-then-value-gt1 : goal.returns-then-value-gt1
 returns-then-value-gt1 c = λ text last. stay c.args.part.now text c.args.counts.now last c.args.at flag
 
-pub is_counted-requires : goal.is_counted-requires
-is_counted-requires c = (omega (arith, c.wide-i.ensures.0, c.if-id-gt-LAST_FLAG.false), c.requires.1.1)
+pub is_slot_counted-requires : goal.is_slot_counted-requires
+is_slot_counted-requires c = (omega (arith, c.wide-i.ensures.0, c.if-id-gt-LAST_FLAG.false), c.requires.1.1)
 
-pub returns-then-is_counted : goal.returns-then-is_counted
-returns-then-is_counted c = λ text last. flag_on c.args.part.now c.args.at c.requires.1.0 c.if-part-at-lt-FLAG_STRIDE.false c.if-id-gt-LAST_FLAG.false c.if-value-gt1.false text c.args.counts.now last _ (omega (arith, c.wide-i.ensures.0)) _ c.is_counted.ensures.value _ c.is_counted.ensures.counts_after c.if-is_counted.true
+pub returns-then-is_slot_counted : goal.returns-then-is_slot_counted
+returns-then-is_slot_counted c = λ text last. flag_on c.args.part.now c.args.at c.requires.1.0 c.if-part-at-lt-FLAG_STRIDE.false c.if-id-gt-LAST_FLAG.false c.if-value-gt1.false text c.args.counts.now last _ (omega (arith, c.wide-i.ensures.0)) _ c.is_slot_counted.ensures.value _ c.is_slot_counted.ensures.counts_after c.if-is_slot_counted.true
 
 pub returns : goal.returns
-returns c = λ text last. once_not c.args.part.now text c.args.counts.now last c.args.at _ _ c.is_counted.ensures.value _ c.is_counted.ensures.counts_after c.if-is_counted.false flag
+returns c = λ text last. once_not c.args.part.now text c.args.counts.now last c.args.at _ _ c.is_slot_counted.ensures.value _ c.is_slot_counted.ensures.counts_after c.if-is_slot_counted.false flag
