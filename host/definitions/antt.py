@@ -7,10 +7,10 @@ theorem states something of; a name that is shut and not on the way does no harm
 import os
 import re
 
-SIGNATURE = re.compile(r'^(\s*)((?:unfoldable |abbrev |pub )*)([^\s(){}]+(?: [^\s(){}:]+)*) : ')
+SIGNATURE = re.compile(r'^(\s*)((?:unfoldable |abbrev |pub )*)([^\s(){}]+(?: [^\s(){}:]+)*) :(?: |$)')
 USE = re.compile(r'^\s*(?:pub )?use (\S+?)\.\{(.*)\}\s*$')
 USE_AS = re.compile(r'^\s*(?:pub )?use (\S+) as (\S+)\s*$')
-OWN = re.compile(r'^Rattle·(\w+?)(?:·specs)?\.specs\.(\w+)$')
+OWN = re.compile(r'^Rattle\.(\w+)\.specs\.(\w+)$')
 SPLIT = re.compile(r'[\s(){};,\[\]]+')
 
 
@@ -74,7 +74,7 @@ def ways(file, key):
         if tail and head in file.modules:
             yield file.modules[head], tail
     for name in sorted(set(file.items) | set(file.names)):
-        bare = name.strip('_')
+        bare = name.strip('◌')
         if name in words or bare in words or (bare == '>>=' and 'do' in words):
             if name in file.items:
                 yield None, name
@@ -100,18 +100,17 @@ def roots(files, file):
     return [entry for entry in file.names.values() if entry and entry[0] in files]
 
 
-def unfolded(names, crate, taken):
-    """Use lines and the words of an unfolding line for a file of the crate in which `taken` names have a meaning."""
+def unfolded(names, taken):
+    """Use lines and the words of an unfolding line for a file in which `taken` names have a meaning."""
     uses, words = {}, []
     for module, name in names:
         word = name
         if word in taken:
-            word = name + '-in-' + module[1]
+            word = name + '_in_' + module[1].lower()
         taken = taken | {word}
         uses.setdefault(module, []).append(name if word == name else '%s as %s' % (name, word))
         words.append(word)
     lines = []
     for (owner, file), entries in uses.items():
-        at = 'Rattle·%s·specs.specs.%s' % (owner, file) if owner == crate else 'Rattle·%s.specs.%s' % (owner, file)
-        lines.append('use %s.{%s}' % (at, ', '.join(entries)))
+        lines.append('use Rattle.%s.specs.%s.{%s}' % (owner, file, ', '.join(entries)))
     return lines, words

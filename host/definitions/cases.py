@@ -51,7 +51,7 @@ def refresh(path, crates=CRATES):
     names = antt.reached(files, antt.roots(files, file))
     here = {entry: name for name, entry in file.names.items() if entry}
     spoken = re.findall(r'[^\s(){};,]+', re.sub(r'(?m)^\s*(--|unfolding ).*$', '', head + rest))
-    uses, words = antt.unfolded([n for n in names if n not in here], parts[0], set(file.names) | set(file.items) | set(spoken))
+    uses, words = antt.unfolded([n for n in names if n not in here], set(file.names) | set(file.items) | set(spoken))
     line = 'unfolding ' + ' '.join([here[n] for n in names if n in here] + words)
     rest = re.sub(r'(?m)^(\s*)unfolding .*$', lambda m: m.group(1) + line, rest)
     open(path, 'w', encoding='utf-8').write(head + mark + ''.join(u + '\n' for u in uses) + rest)
@@ -148,9 +148,9 @@ def told(lines):
     return 'gives %d 0 %s' % (int(head[1]), literal(laid))
 
 
-USES = '''use mathlib.Core.List.{[], _∷_}
+USES = '''use mathlib.Core.List.{[], ◌∷◌}
 use mathlib.Core.Path.{refl}
-use Rattle·cases·specs.specs.Asked.{Answers, tell, _gets_, B, O, C, T, refuses, gives}
+use Rattle.cases.specs.Asked.{Answers, tell, ◌gets◌, B, O, C, T, refuses, gives}
 '''
 
 
@@ -172,7 +172,7 @@ def read(folders, commands, text):
     for folder in sorted(os.path.normpath(folder) for folder in folders):
         if not os.path.exists(os.path.join(folder, 'book.cmd')):
             continue
-        b = ('book-' + os.path.basename(folder),) + book(folder)
+        b = ('book_' + os.path.basename(folder).replace('-', '_'),) + book(folder)
         (larger if len(b[1]) > commands or len(b[2]) > text else books).append(b)
     return [b for b in books if b[3]], [b for b in larger if b[3]]
 
@@ -184,7 +184,7 @@ def scratch_repository(scratch):
     """A copy of the crates, with nothing to prove in the crate `cases` but what a run writes."""
     crates = os.path.join(scratch, 'crates')
     shutil.rmtree(crates, ignore_errors=True)
-    shutil.copytree(CRATES, crates, ignore=shutil.ignore_patterns('must-fail'))
+    shutil.copytree(CRATES, crates, ignore=shutil.ignore_patterns('must-fail', 'out'))
     shutil.copy(os.path.join(ROOT, 'crates.txt'), scratch)
     cases = os.path.join(crates, 'cases')
     shutil.rmtree(os.path.join(cases, 'proofs'), ignore_errors=True)
@@ -201,7 +201,8 @@ def check(scratch, path, books, limit=None):
     """The theorems that are not proved, by name, with the first words on each, and the seconds taken."""
     write(path, 'A run.', books)
     start = time.time()
-    done = subprocess.run(['timeout', str(limit or 0), 'rt', 'check', 'cases'], cwd=scratch, stdout=subprocess.PIPE, stderr=subprocess.STDOUT, env=dict(os.environ, RT_CUT='400'))
+    cases = os.path.join(scratch, 'crates', 'cases')
+    done = subprocess.run(['timeout', str(limit or 0), 'rt', 'check'], cwd=cases, stdout=subprocess.PIPE, stderr=subprocess.STDOUT)
     took = time.time() - start
     if done.returncode == 0:
         return {}, took
@@ -236,9 +237,9 @@ def run(o):
                     disagree += len(pairs)
                     print('seed %s %s: %d command bytes, %d text bytes, %d questions: %s' % (seed, name, len(commands), len(text), len(pairs), failed[name]), flush=True)
                     continue
-                alone = [('%s-%d' % (name, i), commands, text, [pair]) for i, pair in enumerate(pairs)]
+                alone = [('%s_%d' % (name, i), commands, text, [pair]) for i, pair in enumerate(pairs)]
                 for one, words in sorted(check(o.scratch, path, alone, o.limit)[0].items()):
-                    question, answer = pairs[int(one.rsplit('-', 1)[1])]
+                    question, answer = pairs[int(one.rsplit('_', 1)[1])]
                     disagree += 1
                     print('seed %s %s: %r, the crate: %r; %s' % (seed, name, question, answer, words[:160]), flush=True)
         here = (len(books), sum(len(b[3]) for b in books), disagree, len(larger), seconds)

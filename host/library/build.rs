@@ -26,7 +26,7 @@ fn link() -> Result<(), String> {
     Ok(())
 }
 
-/// The file that the variable names, or that file in the folder that it names; without it the one that `rt` writes in this repository.
+/// The file that the variable names, or that file in the folder that it names; without it the one that `host/staticlib.sh` makes in this repository.
 fn archive() -> Result<PathBuf, String> {
     let file = match env::var_os(VARIABLE).filter(|place| !place.is_empty()) {
         None => Path::new(&variable("CARGO_MANIFEST_DIR")?).join("../../target/staticlib").join(FILE),
@@ -37,7 +37,7 @@ fn archive() -> Result<PathBuf, String> {
         return Ok(file);
     }
     Err(format!(
-        "The proved library is not at {}. Run `rt staticlib questions` in the repository, or name the library's file or folder in the variable {VARIABLE}.",
+        "The proved library is not at {}. Run host/staticlib.sh in the repository, or name the library's file or folder in the variable {VARIABLE}.",
         file.display()
     ))
 }

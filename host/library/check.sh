@@ -3,16 +3,7 @@
 # header and the example in C. Needs rt, cargo and cc, and no network.
 set -eu
 cd "$(dirname "$0")"
-archive=../../target/staticlib/libquestions.a
-
-# The proved functions, where no library is named and the one here is missing or older than a source.
-if [ -z "${TSCONFIG_QUESTIONS_LIB:-}" ]; then
-    if [ ! -f $archive ] || [ -n "$(find ../../crates ../../crates.txt -type f -newer $archive | head -n 1)" ]; then
-        log=$(mktemp)
-        trap 'rm -f "$log"' EXIT
-        (cd ../.. && rt staticlib questions) > "$log" 2>&1 || { cat "$log" >&2; exit 1; }
-    fi
-fi
+../staticlib.sh
 
 RUSTFLAGS=${RUSTFLAGS:--D warnings}
 RUSTDOCFLAGS=${RUSTDOCFLAGS:--D warnings}

@@ -5,7 +5,7 @@ here=$(cd "$(dirname "$0")" && pwd)
 library=${TSCONFIG_QUESTIONS_LIB:-$here/../../target/staticlib/libquestions.a}
 if [ -d "$library" ]; then library=$library/libquestions.a; fi
 if [ ! -f "$library" ]; then
-    echo "The proved library is not at $library. Run \`rt staticlib questions\` in the repository." >&2
+    echo "The proved library is not at $library. Run host/staticlib.sh in the repository." >&2
     exit 1
 fi
 scratch=$(mktemp -d)

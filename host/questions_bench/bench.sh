@@ -4,8 +4,8 @@ set -e
 here=$(cd "$(dirname "$0")" && pwd)
 root=$(cd "$here/../.." && pwd)
 scratch=${1:-$(mktemp -d)}
-(cd "$root" && rt staticlib questions >"$scratch/rt.log" 2>&1) || { tail "$scratch/rt.log"; exit 1; }
-cc -O2 -Wall -Wextra -Werror -o "$scratch/bench" "$here/bench.c" "$root"/target/staticlib/*questions*.a
+"$root/host/staticlib.sh"
+cc -O2 -Wall -Wextra -Werror -o "$scratch/bench" "$here/bench.c" "${TSCONFIG_QUESTIONS_LIB:-$root/target/staticlib/libquestions.a}"
 python3 "$here/books.py" "$scratch"
 for name in typical workspace limits wide ladder; do
     while IFS= read -r line; do

@@ -1,4 +1,6 @@
 // Answers questions about the book of the current folder, line by line.
-fn main() {
-    asking::run();
+#![tactic(auto)]
+
+fn main(rt: HostRuntime) {
+    asking::run(&rt);
 }

@@ -1,12 +1,17 @@
 // Answers question lines about a book: `book.cmd` and `book.txt` of the current folder, the lines from standard input to its end, the
 // answers to standard output.
+#![tactic(auto)]
+
 ghost use Rattle.std.specs.Prelude.{◌+◌, ◌<◌, ◌≤◌, length};
 ghost use Rattle.asking.specs.Loaded.{Within};
 
 use asked::{Kind, fields, first_field, kind_of, other_fields};
-use libc::{STDIN_FILENO, STDOUT_FILENO};
 use questions::{tsconfig_build, tsconfig_candidates, tsconfig_owner, tsconfig_tries};
 use replies::Numbers;
+use std::io::Read;
+use std::rt::Files;
+use streams::{fail, read_file};
+pub use streams::{say, say_number};
 use text::{Found, find_byte, from, upto};
 
 const LINE_END: u8 = 0x0A;
@@ -14,40 +19,23 @@ const LINE_END: u8 = 0x0A;
 // What owner answers for both configs where there is none.
 const NONE: u64 = 65535;
 
-// Writes bytes.
-pub fn say(s: &[u8]) {
-    let is_written = io::write_all(STDOUT_FILENO, s);
-    if !is_written {
-        os::fail(b"standard output");
-    }
-}
-
-// Writes a number after a blank.
-pub fn say_number(n: u64) {
-    say(b" ");
-    let is_written = io::print_decimal(STDOUT_FILENO, n);
-    if !is_written {
-        os::fail(b"standard output");
-    }
-}
-
 // Writes a line.
-fn say_line(s: &[u8]) {
-    say(s);
-    say(b"\n");
+fn say_line(rt: &(impl Print + Eprint), s: &[u8]) {
+    say(rt, s);
+    say(rt, b"\n");
 }
 
 // Writes a line of a word and two numbers.
-fn say_two(name: &[u8], a: u64, b: u64) {
-    say(name);
-    say_number(a);
-    say_number(b);
-    say(b"\n");
+fn say_two(rt: &(impl Print + Eprint), name: &[u8], a: u64, b: u64) {
+    say(rt, name);
+    say_number(rt, a);
+    say_number(rt, b);
+    say(rt, b"\n");
 }
 
 // Writes a refusal.
-fn say_refused(r: Numbers) {
-    say_two(b"refused", r.number, r.place);
+fn say_refused(rt: &(impl Print + Eprint), r: Numbers) {
+    say_two(rt, b"refused", r.number, r.place);
 }
 
 fn wide(x: u8) -> usize
@@ -74,12 +62,12 @@ fn word(s: &[u8]) -> usize
 }
 
 // Writes the paths of a list, one a line. Each is a length of two bytes, low first, and its bytes.
-fn say_paths(list: &[u8]) {
+fn say_paths(rt: &(impl Print + Eprint), list: &[u8]) {
     let mut at = 0;
     while at < list.len() {
         let entry = from(list, at);
         let size = word(entry);
-        say_line(upto(from(entry, 2), size));
+        say_line(rt, upto(from(entry, 2), size));
         if list.len() - at <= size + 2 {
             return;
         }
@@ -88,46 +76,60 @@ fn say_paths(list: &[u8]) {
 }
 
 // Writes a list of paths under a word and their number.
-fn say_list(name: &[u8], count: u64, list: &[u8]) {
-    say(name);
-    say_number(count);
-    say(b"\n");
-    say_paths(list);
+fn say_list(rt: &(impl Print + Eprint), name: &[u8], count: u64, list: &[u8]) {
+    say(rt, name);
+    say_number(rt, count);
+    say(rt, b"\n");
+    say_paths(rt, list);
 }
 
-fn answer_build(commands: &[u8], text: &[u8], path: &[u8], out: &mut [u8]) {
+fn answer_build(
+    rt: &(impl Print + Eprint),
+    commands: &[u8],
+    text: &[u8],
+    path: &[u8],
+    out: &mut [u8],
+) {
     let r = tsconfig_build(commands, text, path, out);
     if r.number != 0 {
-        say_refused(r);
+        say_refused(rt, r);
         return;
     }
-    say_two(b"built", r.first, r.second);
-    say(upto(out, r.bytes as usize));
+    say_two(rt, b"built", r.first, r.second);
+    say(rt, upto(out, r.bytes as usize));
 }
 
-fn answer_owner(commands: &[u8], text: &[u8], path: &[u8]) {
+fn answer_owner(rt: &(impl Print + Eprint), commands: &[u8], text: &[u8], path: &[u8]) {
     let r = tsconfig_owner(commands, text, path);
     if r.number != 0 {
-        say_refused(r);
+        say_refused(rt, r);
         return;
     }
     if r.first == NONE {
-        say_line(b"owner none");
+        say_line(rt, b"owner none");
         return;
     }
-    say_two(b"owner", r.first, r.second);
+    say_two(rt, b"owner", r.first, r.second);
 }
 
-fn answer_candidates(commands: &[u8], text: &[u8], path: &[u8], specifier: &[u8], out: &mut [u8]) {
+fn answer_candidates(
+    rt: &(impl Print + Eprint),
+    commands: &[u8],
+    text: &[u8],
+    path: &[u8],
+    specifier: &[u8],
+    out: &mut [u8],
+) {
     let r = tsconfig_candidates(commands, text, path, specifier, out);
     if r.number != 0 {
-        say_refused(r);
+        say_refused(rt, r);
         return;
     }
-    say_list(b"candidates", r.first, upto(out, r.bytes as usize));
+    say_list(rt, b"candidates", r.first, upto(out, r.bytes as usize));
 }
 
 fn answer_tries(
+    rt: &(impl Print + Eprint),
     commands: &[u8],
     text: &[u8],
     path: &[u8],
@@ -137,18 +139,19 @@ fn answer_tries(
 ) {
     let r = tsconfig_tries(commands, text, path, directory, specifier, out);
     if r.number != 0 {
-        say_refused(r);
+        say_refused(rt, r);
         return;
     }
-    say_list(b"tries", r.first, upto(out, r.bytes as usize));
+    say_list(rt, b"tries", r.first, upto(out, r.bytes as usize));
 }
 
-fn answer(commands: &[u8], text: &[u8], line: &[u8], out: &mut [u8]) {
+fn answer(rt: &(impl Print + Eprint), commands: &[u8], text: &[u8], line: &[u8], out: &mut [u8]) {
     let asked = fields(line);
     match kind_of(line) {
-        Kind::Build => answer_build(commands, text, asked, out),
-        Kind::Owner => answer_owner(commands, text, asked),
+        Kind::Build => answer_build(rt, commands, text, asked, out),
+        Kind::Owner => answer_owner(rt, commands, text, asked),
         Kind::Candidates => answer_candidates(
+            rt,
             commands,
             text,
             first_field(asked),
@@ -158,6 +161,7 @@ fn answer(commands: &[u8], text: &[u8], line: &[u8], out: &mut [u8]) {
         Kind::Tries => {
             let rest = other_fields(asked);
             answer_tries(
+                rt,
                 commands,
                 text,
                 first_field(asked),
@@ -167,13 +171,20 @@ fn answer(commands: &[u8], text: &[u8], line: &[u8], out: &mut [u8]) {
             );
         }
         Kind::Unknown => say_line(
+            rt,
             b"no question: B path, O path, C path, tab, specifier, or T path, tab, directory, tab, specifier",
         ),
     }
 }
 
 // Answers each line of an input that has its end. Gives where what follows the last of them starts.
-fn answer_lines(commands: &[u8], text: &[u8], input: &[u8], out: &mut [u8]) -> usize
+fn answer_lines(
+    rt: &(impl Print + Eprint),
+    commands: &[u8],
+    text: &[u8],
+    input: &[u8],
+    out: &mut [u8],
+) -> usize
     ensures { result ≤ length input.now }
 {
     let mut at = 0;
@@ -182,24 +193,31 @@ fn answer_lines(commands: &[u8], text: &[u8], input: &[u8], out: &mut [u8]) -> u
         let Found::At(i) = find_byte(rest, LINE_END) else {
             return at;
         };
-        answer(commands, text, upto(rest, i), out);
+        answer(rt, commands, text, upto(rest, i), out);
         at = at + i + 1;
     }
 }
 
 // How far an input is answered, and whether the line that is open there is passed over.
-#[derive(Drop)]
+#[derive(Clone, Copy)]
 pub struct Done {
     pub at: usize,
     pub passing: bool,
 }
 
 // Answers the lines that have their end in an input, after the end of the line that is passed over, if one is.
-fn answer_input(commands: &[u8], text: &[u8], input: &[u8], passing: bool, out: &mut [u8]) -> Done
+fn answer_input(
+    rt: &(impl Print + Eprint),
+    commands: &[u8],
+    text: &[u8],
+    input: &[u8],
+    passing: bool,
+    out: &mut [u8],
+) -> Done
     ensures { result.at ≤ length input.now }
 {
     if !passing {
-        let at = answer_lines(commands, text, input, out);
+        let at = answer_lines(rt, commands, text, input, out);
         return Done {
             at: at,
             passing: false,
@@ -212,7 +230,7 @@ fn answer_input(commands: &[u8], text: &[u8], input: &[u8], passing: bool, out: 
         };
     };
     let lines = from(input, i + 1);
-    let at = answer_lines(commands, text, lines, out);
+    let at = answer_lines(rt, commands, text, lines, out);
     Done {
         at: i + 1 + at,
         passing: false,
@@ -232,21 +250,21 @@ fn move_down(buffer: &mut [u8], at: usize, end: usize)
 }
 
 // Reads what comes next of standard input to the place `at`. Gives how many bytes came: none at its end.
-fn read_more(buffer: &mut [u8], at: usize) -> usize
+fn read_more(rt: &impl Eprint, input: &mut impl Read, buffer: &mut [u8], at: usize) -> usize
     requires { at ≤ length buffer.old }
     ensures { at + result ≤ length buffer.old }
 {
-    let room = &mut buffer[at..];
-    let got = libc::read(STDIN_FILENO, room);
-    if got < 0 {
-        os::fail(b"standard input");
-        return 0;
+    match input.read(&mut buffer[at..]) {
+        Ok(got) => got,
+        Err(error) => {
+            fail(rt, "standard input", error);
+            0
+        }
     }
-    io::count(got, room)
 }
 
 // How many bytes at the start of the buffer wait for their line's end, whether that line is passed over, and whether more may come.
-#[derive(Drop)]
+#[derive(Clone, Copy)]
 pub struct Held {
     pub count: usize,
     pub passing: bool,
@@ -256,6 +274,7 @@ pub struct Held {
 // Answers the lines that have their end in the first `end` bytes of the buffer, and keeps what follows at its start. A line that fills the
 // buffer is too long, and is passed over.
 fn take_in(
+    rt: &(impl Print + Eprint),
     commands: &[u8],
     text: &[u8],
     buffer: &mut [u8],
@@ -266,11 +285,11 @@ fn take_in(
     requires { end ≤ length buffer.old }
     ensures { result.count ≤ length buffer.old }
 {
-    let done = answer_input(commands, text, upto(buffer, end), passing, out);
+    let done = answer_input(rt, commands, text, upto(buffer, end), passing, out);
     let at = done.at;
     let count = end - at;
     if count == buffer.len() {
-        say_line(b"line too long: at most 4095 bytes");
+        say_line(rt, b"line too long: at most 4095 bytes");
         return Held {
             count: 0,
             passing: true,
@@ -286,15 +305,23 @@ fn take_in(
 }
 
 // Reads once and answers what can be answered then. At the end of the input what waits is the last line.
-fn turn(commands: &[u8], text: &[u8], buffer: &mut [u8], held: Held, out: &mut [u8]) -> Held
+fn turn(
+    rt: &(impl Print + Eprint),
+    input: &mut impl Read,
+    commands: &[u8],
+    text: &[u8],
+    buffer: &mut [u8],
+    held: Held,
+    out: &mut [u8],
+) -> Held
     requires { held.count ≤ length buffer.old }
     ensures { result.count ≤ length buffer.old }
 {
     let count = held.count;
-    let got = read_more(buffer, count);
+    let got = read_more(rt, input, buffer, count);
     if got == 0 {
         if 0 < count {
-            answer(commands, text, upto(buffer, count), out);
+            answer(rt, commands, text, upto(buffer, count), out);
         }
         return Held {
             count: 0,
@@ -302,66 +329,62 @@ fn turn(commands: &[u8], text: &[u8], buffer: &mut [u8], held: Held, out: &mut [
             open: false,
         };
     }
-    take_in(commands, text, buffer, count + got, held.passing, out)
+    take_in(rt, commands, text, buffer, count + got, held.passing, out)
 }
 
-// Answers the lines of standard input. They are read through the lent buffer. Nothing says that an input ends, so the turns count down from
-// a number that no run uses up.
-fn answer_all(commands: &[u8], text: &[u8], buffer: &mut [u8], out: &mut [u8]) {
+// Answers the lines of standard input. They are read through the lent buffer. Nothing says that an input ends, so the turns are counted, up to
+// a number that no run reaches.
+fn answer_all(
+    rt: &(impl Input + Print + Eprint),
+    commands: &[u8],
+    text: &[u8],
+    buffer: &mut [u8],
+    out: &mut [u8],
+) {
+    let mut input = rt.reader();
     let mut held = Held {
         count: 0,
         passing: false,
         open: true,
     };
-    let mut turns = u64::MAX;
-    while 0 < turns {
-        held = turn(commands, text, buffer, held, out);
+    for _ in 0..u64::MAX {
+        held = turn(rt, &mut input, commands, text, buffer, held, out);
         if !held.open {
             return;
         }
-        turns -= 1;
     }
 }
 
-// Reads a file whole, as far as there is room. Says what is wrong where it cannot be read: one more read tells a file that ended from one
-// that failed.
-pub fn load(name: &[u8], room: &mut [u8]) -> Found
+// Reads a file whole, as far as there is room. Says what is wrong where it cannot be read.
+pub fn load(rt: &(impl Files + Eprint), name: &str, room: &mut [u8]) -> Found
     ensures { Within (length room.old) result }
 {
-    let fd = os::open_read(name);
-    if fd < 0 {
-        os::fail(name);
-        return Found::Nothing;
+    match read_file(rt, name, room) {
+        Ok(n) => Found::At(n),
+        Err(error) => {
+            fail(rt, name, error);
+            Found::Nothing
+        }
     }
-    let n = io::read_full(fd, room);
-    let mut next = [0u8; 1];
-    let got = libc::read(fd, &mut next);
-    if got < 0 {
-        os::fail(name);
-        libc::close(fd);
-        return Found::Nothing;
-    }
-    libc::close(fd);
-    Found::At(n)
 }
 
 // Answers the lines of standard input about a book, with room for every answer.
-fn answer_stdin(commands: &[u8], text: &[u8]) {
+fn answer_stdin(rt: &(impl Input + Print + Eprint), commands: &[u8], text: &[u8]) {
     let mut buffer = [0u8; 4096];
     let mut out = [0u8; 1048576];
-    answer_all(commands, text, &mut buffer, &mut out);
+    answer_all(rt, commands, text, &mut buffer, &mut out);
 }
 
 // Answers the lines of standard input about the book of the current folder. A book that is too large is read one byte further than is allowed,
 // so that it is refused.
-pub fn run() {
+pub fn run(rt: &(impl Files + Input + Print + Eprint)) {
     let mut commands = [0u8; 32769];
     let mut text = [0u8; 65536];
-    let Found::At(m) = load(b"book.cmd", &mut commands) else {
+    let Found::At(m) = load(rt, "book.cmd", &mut commands) else {
         return;
     };
-    let Found::At(n) = load(b"book.txt", &mut text) else {
+    let Found::At(n) = load(rt, "book.txt", &mut text) else {
         return;
     };
-    answer_stdin(upto(&commands, m), upto(&text, n));
+    answer_stdin(rt, upto(&commands, m), upto(&text, n));
 }

@@ -1,11 +1,13 @@
 // Holds the check of a book to fixed verdicts, which stand in data/books.bin; host/edges says how they are made and what an entry of the
 // file is. Writes for each group its name, its entries, the books judged, the entries that disagree, and the number of the first of these,
 // 0 where there is none.
+#![tactic(auto)]
+
 ghost use Rattle.std.specs.Prelude.{◌<◌, ◌≤◌};
 
 use book::Judged;
 use checker::check_book;
-use libc::STDOUT_FILENO;
+use streams::{fail, read_file, say, say_number};
 use text::{from, upto};
 
 // The kinds of entries.
@@ -74,7 +76,7 @@ fn fold(sum: usize, x: usize) -> usize {
 }
 
 // What the check says of a book: the refusal's number and place; where it is accepted 0, 0, its records and the sum of their index.
-#[derive(Drop)]
+#[derive(Clone, Copy)]
 pub struct Verdict {
     pub number: usize,
     pub place: usize,
@@ -230,7 +232,7 @@ fn grown(out: &mut [u8], n: usize, kind: usize, wanted: usize, body: &[u8]) -> u
 }
 
 // Entries and books judged, entries that disagree, and the first of these.
-#[derive(Drop)]
+#[derive(Clone, Copy)]
 pub struct Tally {
     pub entries: usize,
     pub books: usize,
@@ -307,28 +309,27 @@ fn tallied(
     tally
 }
 
-fn write_number(n: usize) {
-    io::write_all(STDOUT_FILENO, b" ");
-    io::print_decimal(STDOUT_FILENO, n as u64);
+fn write_number(rt: &(impl Print + Eprint), n: usize) {
+    say_number(rt, n as u64);
 }
 
-fn write_tally(tally: Tally) {
-    write_number(tally.entries);
-    write_number(tally.books);
-    write_number(tally.wrong);
-    write_number(tally.first);
-    io::write_all(STDOUT_FILENO, b"\n");
+fn write_tally(rt: &(impl Print + Eprint), tally: Tally) {
+    write_number(rt, tally.entries);
+    write_number(rt, tally.books);
+    write_number(rt, tally.wrong);
+    write_number(rt, tally.first);
+    say(rt, b"\n");
 }
 
 // At a name, the tally of the group before is written, if there is one, then the name, and a new tally begins.
-fn titled(tally: Tally, kind: usize, name: &[u8], at: usize) -> Tally {
+fn titled(rt: &(impl Print + Eprint), tally: Tally, kind: usize, name: &[u8], at: usize) -> Tally {
     if kind != GROUP {
         return tally;
     }
     if 0 < at {
-        write_tally(tally);
+        write_tally(rt, tally);
     }
-    io::write_all(STDOUT_FILENO, name);
+    say(rt, name);
     Tally {
         entries: 0,
         books: 0,
@@ -338,7 +339,7 @@ fn titled(tally: Tally, kind: usize, name: &[u8], at: usize) -> Tally {
 }
 
 // The tally, and how many bytes of commands and of text the book has so far.
-#[derive(Drop)]
+#[derive(Clone, Copy)]
 pub struct Progress {
     pub tally: Tally,
     pub commands: usize,
@@ -347,6 +348,7 @@ pub struct Progress {
 
 // One entry, which stands at `at`.
 fn turn(
+    rt: &(impl Print + Eprint),
     before: Progress,
     entry: &[u8],
     at: usize,
@@ -355,7 +357,7 @@ fn turn(
 ) -> Progress {
     let kind = byte_at(entry, 0);
     let body = upto(from(entry, 3), word_at(entry, 1));
-    let tally = titled(before.tally, kind, body, at);
+    let tally = titled(rt, before.tally, kind, body, at);
     let m = grown(commands, before.commands, kind, COMMANDS, body);
     let n = grown(text, before.text, kind, TEXT, body);
     let after = tallied(tally, kind, body, commands, m, text, n);
@@ -367,7 +369,7 @@ fn turn(
 }
 
 // The entries of a list in turn. A book is made in the lent commands and text.
-fn replay(list: &[u8], commands: &mut [u8], text: &mut [u8]) -> Tally {
+fn replay(rt: &(impl Print + Eprint), list: &[u8], commands: &mut [u8], text: &mut [u8]) -> Tally {
     let none = Tally {
         entries: 0,
         books: 0,
@@ -383,7 +385,7 @@ fn replay(list: &[u8], commands: &mut [u8], text: &mut [u8]) -> Tally {
     while at < list.len() {
         let entry = from(list, at);
         let size = word_at(entry, 1) + 3;
-        so_far = turn(so_far, entry, at, commands, text);
+        so_far = turn(rt, so_far, entry, at, commands, text);
         if list.len() - at <= size {
             return so_far.tally;
         }
@@ -392,20 +394,20 @@ fn replay(list: &[u8], commands: &mut [u8], text: &mut [u8]) -> Tally {
     so_far.tally
 }
 
-fn main() {
+fn main(rt: HostRuntime) {
     let mut list = [0u8; 524288];
     let mut commands = [0u8; 33000];
     let mut text = [0u8; 66000];
-    let fd = os::open_read(b"books.bin");
-    if fd < 0 {
-        os::fail(b"books.bin");
-        return;
-    }
-    let size = io::read_full(fd, &mut list);
-    libc::close(fd);
-    let tally = replay(&list[..size], &mut commands, &mut text);
-    write_tally(tally);
-    io::write_all(STDOUT_FILENO, b"books.bin");
-    write_number(size);
-    io::write_all(STDOUT_FILENO, b"\n");
+    let size = match read_file(&rt, "books.bin", &mut list) {
+        Ok(size) => size,
+        Err(error) => {
+            fail(&rt, "books.bin", error);
+            return;
+        }
+    };
+    let tally = replay(&rt, &list[..size], &mut commands, &mut text);
+    write_tally(&rt, tally);
+    say(&rt, b"books.bin");
+    write_number(&rt, size);
+    say(&rt, b"\n");
 }

@@ -82,7 +82,7 @@ after_after ok ok' P imp [] h = h
 after_after ok ok' P imp (x ∷ s) h =
     after_cons ok (after ok' P) x s (after_fewer ok ok' P imp (x ∷ s) h) (λ e. after_after ok ok' P imp s (after_tail ok P x s h e))
 
--- `anyByte` is never false
+-- `any_byte` is never false
 never_false : (f : ℕ → Bool) (y : ℕ) → any_byte y ≡ false → f y ≡ false
 never_false f y e = absurd (true≢false e)
 

@@ -67,6 +67,9 @@ same_swap [] (y ∷ b) = refl
 same_swap (x ∷ a) [] = refl
 same_swap (x ∷ a) (y ∷ b) = ap₂ ◌&&◌ (by_test (eqb x y) (λ t. t ∙ sym (eq-eqb y x (sym (eqb-true x y t)))) (λ f. f ∙ sym (ne_eqb y x (λ h. eqb-false x y f (sym h))))) (same_swap a b)
 
+covers_short : (p q : Text) → length q < length p → covers p q ≡ false
+covers_short p q h = sym (over_short p q h)
+
 -- whether two strings meet, by their lengths; r is what the code tests of them
 module _ (paths : Bool) (a b : Text) (r : Bool) where
   pub meet_same : length a ≡ length b → r ≡ covers b a → r ≡ meets paths a b
@@ -77,11 +80,11 @@ module _ (paths : Bool) (a b : Text) (r : Bool) where
 
   pub meet_short : paths ≡ true → length a < length b → r ≡ covers a b → r ≡ meets paths a b
   unfolding meets clash
-  meet_short t h k = rw (t, ← over_short b a h) (k ∙ sym (or-false (covers a b)))
+  meet_short t h k = rw (t, covers_short b a h) (k ∙ sym (or-false (covers a b)))
 
   pub meet_long : paths ≡ true → length b < length a → r ≡ covers b a → r ≡ meets paths a b
   unfolding meets clash
-  meet_long t h k = rw (t, ← over_short a b h) k
+  meet_long t h k = rw (t, covers_short a b h) k
 
 pub meet_not : (paths : Bool) (a b : Text) → paths ≡ false → (length a ≡ length b → ⊥) → false ≡ meets paths a b
 unfolding meets

@@ -116,8 +116,7 @@ fn build(
 }
 
 // B: the config that a path means, merged with what it extends and built, as lines; its record and the merges made.
-#[unsafe(no_mangle)]
-pub extern "C" fn tsconfig_build(
+pub fn tsconfig_build(
     commands: &[u8],
     text: &[u8],
     path: &[u8],
@@ -244,8 +243,7 @@ fn answer_paths(
 }
 
 // C: the paths that a specifier is mapped to by the config that a path means, each a length in two bytes and its bytes; how many there are.
-#[unsafe(no_mangle)]
-pub extern "C" fn tsconfig_candidates(
+pub fn tsconfig_candidates(
     commands: &[u8],
     text: &[u8],
     path: &[u8],
@@ -258,8 +256,7 @@ pub extern "C" fn tsconfig_candidates(
 }
 
 // T: the paths that would be tried for a specifier from a directory, in the layout of candidates; how many there are.
-#[unsafe(no_mangle)]
-pub extern "C" fn tsconfig_tries(
+pub fn tsconfig_tries(
     commands: &[u8],
     text: &[u8],
     path: &[u8],
@@ -296,8 +293,7 @@ fn owner(
 }
 
 // O: the config that owns a file, and its solution: 65,535 twice where there is none.
-#[unsafe(no_mangle)]
-pub extern "C" fn tsconfig_owner(commands: &[u8], text: &[u8], path: &[u8]) -> Numbers
+pub fn tsconfig_owner(commands: &[u8], text: &[u8], path: &[u8]) -> Numbers
     ensures { numbers_of result ≡ returned (tsconfig_owner commands.now text.now path.now) }
 {
     let mut begins = [0usize; 64];

@@ -1,6 +1,9 @@
 // Holds the functions on paths and patterns to fixed lists of answers, which stand in data/; host/lists says how they are made. Writes for
 // each list its bytes, its lines, the lines that disagree, and the number of the first of these, 0 where there is none.
-use libc::STDOUT_FILENO;
+#![tactic(auto)]
+
+use std::rt::Files;
+use streams::{fail, read_file, say, say_number};
 use text::{Part, between, from, part_after, part_before, same_text, upto};
 
 const TAB: u8 = 0x09;
@@ -147,7 +150,7 @@ fn glob_agrees(line: &[u8]) -> bool {
 }
 
 // Which list.
-#[derive(Drop)]
+#[derive(Clone, Copy)]
 pub enum Kind {
     One,
     Two,
@@ -163,7 +166,7 @@ fn line_agrees(kind: Kind, line: &[u8]) -> bool {
 }
 
 // Lines read, lines that disagree, and the first of these.
-#[derive(Drop)]
+#[derive(Clone, Copy)]
 pub struct Tally {
     pub lines: usize,
     pub wrong: usize,
@@ -225,32 +228,31 @@ fn replay(kind: Kind, list: &[u8]) -> Tally {
     tally
 }
 
-fn write_number(n: usize) {
-    io::write_all(STDOUT_FILENO, b" ");
-    io::print_decimal(STDOUT_FILENO, n as u64);
+fn write_number(rt: &(impl Print + Eprint), n: usize) {
+    say_number(rt, n as u64);
 }
 
 // Reads a list of the folder and writes how it fared.
-fn report(kind: Kind, name: &[u8]) {
+fn report(rt: &(impl Files + Print + Eprint), kind: Kind, name: &str) {
     let mut buf = [0u8; 524288];
-    let fd = os::open_read(name);
-    if fd < 0 {
-        os::fail(name);
-        return;
-    }
-    let n = io::read_full(fd, &mut buf);
-    libc::close(fd);
+    let n = match read_file(rt, name, &mut buf) {
+        Ok(n) => n,
+        Err(error) => {
+            fail(rt, name, error);
+            return;
+        }
+    };
     let tally = replay(kind, &buf[..n]);
-    io::write_all(STDOUT_FILENO, name);
-    write_number(n);
-    write_number(tally.lines);
-    write_number(tally.wrong);
-    write_number(tally.first);
-    io::write_all(STDOUT_FILENO, b"\n");
+    say(rt, name.as_bytes());
+    write_number(rt, n);
+    write_number(rt, tally.lines);
+    write_number(rt, tally.wrong);
+    write_number(rt, tally.first);
+    say(rt, b"\n");
 }
 
-fn main() {
-    report(Kind::One, b"one.txt");
-    report(Kind::Two, b"two.txt");
-    report(Kind::Glob, b"glob.txt");
+fn main(rt: HostRuntime) {
+    report(&rt, Kind::One, "one.txt");
+    report(&rt, Kind::Two, "two.txt");
+    report(&rt, Kind::Glob, "glob.txt");
 }

@@ -1,6 +1,8 @@
 // Asks each question of a list for three sizes of its output. With no room the refusal tells how many bytes the answer needs; with just so many
 // it is answered, and nothing is written behind them; with one fewer it is refused by the same number, and nothing is written at all. Writes
 // for each question its line, the bytes, and `ok` for each of the two sizes, or what is wrong.
+#![tactic(auto)]
+
 ghost use Rattle.std.specs.Prelude.{◌<◌, ◌≤◌, length};
 
 use asked::{Kind, fields, fill, first_field, is_kept, kind_of, other_fields};
@@ -54,6 +56,7 @@ fn is_answer(commands: &[u8], text: &[u8], line: &[u8], s: &[u8], ample: &mut [u
 }
 
 fn check_exact(
+    rt: &(impl Print + Eprint),
     commands: &[u8],
     text: &[u8],
     line: &[u8],
@@ -65,50 +68,58 @@ fn check_exact(
 {
     let r = ask_within(commands, text, line, room, need);
     if r.number != 0 {
-        say(b", exact refused");
-        say_number(r.number);
+        say(rt, b", exact refused");
+        say_number(rt, r.number);
         return;
     }
     if r.bytes != need as u64 {
-        say(b", exact gave bytes");
-        say_number(r.bytes);
+        say(rt, b", exact gave bytes");
+        say_number(rt, r.bytes);
         return;
     }
     if !is_kept(from(room, need)) {
-        say(b", exact wrote behind its end");
+        say(rt, b", exact wrote behind its end");
         return;
     }
     if !is_answer(commands, text, line, upto(room, need), ample) {
-        say(b", exact is another answer than with more room");
+        say(rt, b", exact is another answer than with more room");
         return;
     }
-    say(b", exact ok");
+    say(rt, b", exact ok");
 }
 
-fn check_short(commands: &[u8], text: &[u8], line: &[u8], need: usize, room: &mut [u8])
+fn check_short(
+    rt: &(impl Print + Eprint),
+    commands: &[u8],
+    text: &[u8],
+    line: &[u8],
+    need: usize,
+    room: &mut [u8],
+)
     requires need_nonzero { 0 < need }
     requires need_in_bounds { need ≤ length room.old }
 {
     let r = ask_within(commands, text, line, room, need - 1);
     if r.number != SHORT {
-        say(b", short number");
-        say_number(r.number);
+        say(rt, b", short number");
+        say_number(rt, r.number);
         return;
     }
     if r.place != need as u64 {
-        say(b", short place");
-        say_number(r.place);
+        say(rt, b", short place");
+        say_number(rt, r.place);
         return;
     }
     if !is_kept(room) {
-        say(b", short wrote");
+        say(rt, b", short wrote");
         return;
     }
-    say(b", short ok");
+    say(rt, b", short ok");
 }
 
 // A refusal that no size changes.
 fn check_refused(
+    rt: &(impl Print + Eprint),
     commands: &[u8],
     text: &[u8],
     line: &[u8],
@@ -116,29 +127,30 @@ fn check_refused(
     number: u64,
     place: u64,
 ) {
-    say(b" refused");
-    say_number(number);
-    say_number(place);
+    say(rt, b" refused");
+    say_number(rt, number);
+    say_number(rt, place);
     let size = room.len();
     let r = ask_within(commands, text, line, room, size);
     if r.number != number {
-        say(b", with more room number");
-        say_number(r.number);
+        say(rt, b", with more room number");
+        say_number(rt, r.number);
         return;
     }
     if r.place != place {
-        say(b", with more room place");
-        say_number(r.place);
+        say(rt, b", with more room place");
+        say_number(rt, r.place);
         return;
     }
     if !is_kept(room) {
-        say(b", wrote");
+        say(rt, b", wrote");
         return;
     }
-    say(b", kept ok");
+    say(rt, b", kept ok");
 }
 
 fn check_need(
+    rt: &(impl Print + Eprint),
     commands: &[u8],
     text: &[u8],
     line: &[u8],
@@ -146,41 +158,55 @@ fn check_need(
     room: &mut [u8],
     ample: &mut [u8],
 ) {
-    say_number(need as u64);
+    say_number(rt, need as u64);
     if room.len() < need {
-        say(b", more than is tried here");
+        say(rt, b", more than is tried here");
         return;
     }
-    check_exact(commands, text, line, need, room, ample);
+    check_exact(rt, commands, text, line, need, room, ample);
     if 0 < need {
-        check_short(commands, text, line, need, room);
+        check_short(rt, commands, text, line, need, room);
     }
 }
 
-fn check_line(commands: &[u8], text: &[u8], line: &[u8], room: &mut [u8], ample: &mut [u8]) {
-    say(line);
-    say(b":");
+fn check_line(
+    rt: &(impl Print + Eprint),
+    commands: &[u8],
+    text: &[u8],
+    line: &[u8],
+    room: &mut [u8],
+    ample: &mut [u8],
+) {
+    say(rt, line);
+    say(rt, b":");
     let r = ask_within(commands, text, line, room, 0);
     let number = r.number;
     let place = r.place;
     if number == 0 {
-        check_need(commands, text, line, 0, room, ample);
+        check_need(rt, commands, text, line, 0, room, ample);
         return;
     }
     if number == SHORT {
-        check_need(commands, text, line, place as usize, room, ample);
+        check_need(rt, commands, text, line, place as usize, room, ample);
         return;
     }
-    check_refused(commands, text, line, room, number, place);
+    check_refused(rt, commands, text, line, room, number, place);
 }
 
-fn check_lines(commands: &[u8], text: &[u8], list: &[u8], room: &mut [u8], ample: &mut [u8]) {
+fn check_lines(
+    rt: &(impl Print + Eprint),
+    commands: &[u8],
+    text: &[u8],
+    list: &[u8],
+    room: &mut [u8],
+    ample: &mut [u8],
+) {
     let mut at = 0;
     while at < list.len() {
         let line = part_before(from(list, at), LINE_END);
         let size = line.len();
-        check_line(commands, text, line, room, ample);
-        say(b"\n");
+        check_line(rt, commands, text, line, room, ample);
+        say(rt, b"\n");
         if list.len() - at <= size {
             return;
         }
@@ -189,24 +215,24 @@ fn check_lines(commands: &[u8], text: &[u8], list: &[u8], room: &mut [u8], ample
 }
 
 // Checks a list of lines about a book.
-fn check_all(commands: &[u8], text: &[u8], list: &[u8]) {
+fn check_all(rt: &(impl Print + Eprint), commands: &[u8], text: &[u8], list: &[u8]) {
     let mut room = [0u8; 8192];
     let mut ample = [0u8; 65536];
-    check_lines(commands, text, list, &mut room, &mut ample);
+    check_lines(rt, commands, text, list, &mut room, &mut ample);
 }
 
-fn main() {
+fn main(rt: HostRuntime) {
     let mut commands = [0u8; 32769];
     let mut text = [0u8; 65536];
     let mut list = [0u8; 65536];
-    let Found::At(m) = load(b"book.cmd", &mut commands) else {
+    let Found::At(m) = load(&rt, "book.cmd", &mut commands) else {
         return;
     };
-    let Found::At(n) = load(b"book.txt", &mut text) else {
+    let Found::At(n) = load(&rt, "book.txt", &mut text) else {
         return;
     };
-    let Found::At(k) = load(b"questions", &mut list) else {
+    let Found::At(k) = load(&rt, "questions", &mut list) else {
         return;
     };
-    check_all(upto(&commands, m), upto(&text, n), upto(&list, k));
+    check_all(&rt, upto(&commands, m), upto(&text, n), upto(&list, k));
 }

@@ -1,6 +1,8 @@
 // Holds the four questions to a fixed list of the crate's own answers, data/sample.bin; host/differential says how it is made and what an entry of
 // it is. Writes how often each refusal is the answer, 0 standing for none, and then the questions asked, those that are answered otherwise than the
 // list says, and the number of the first of these, 0 where there is none.
+#![tactic(auto)]
+
 ghost use Rattle.std.specs.Prelude.{◌<◌, ◌≤◌, length};
 
 use asked::{fill, is_kept};
@@ -149,7 +151,7 @@ fn agrees(kind: usize, commands: &[u8], text: &[u8], body: &[u8], room: &mut [u8
 }
 
 // Questions asked, those that are answered otherwise than is listed, and the first of these.
-#[derive(Drop)]
+#[derive(Clone, Copy)]
 pub struct Tally {
     pub asked: u64,
     pub wrong: u64,
@@ -274,32 +276,32 @@ fn replay(list: &[u8], counts: &mut [u64], room: &mut [u8]) -> Tally {
     tally
 }
 
-fn write_counts(counts: &[u64]) {
+fn write_counts(rt: &(impl Print + Eprint), counts: &[u64]) {
     let mut i = 0;
     while i < counts.len() {
-        say(b"number");
-        say_number(i as u64);
-        say(b":");
-        say_number(counts[i]);
-        say(b"\n");
+        say(rt, b"number");
+        say_number(rt, i as u64);
+        say(rt, b":");
+        say_number(rt, counts[i]);
+        say(rt, b"\n");
         i += 1;
     }
 }
 
-fn main() {
+fn main(rt: HostRuntime) {
     let mut list = [0u8; 524288];
     let mut room = [0u8; 8192];
     let mut counts = [0u64; 14];
-    let Found::At(size) = load(b"sample.bin", &mut list) else {
+    let Found::At(size) = load(&rt, "sample.bin", &mut list) else {
         return;
     };
     let tally = replay(upto(&list, size), &mut counts, &mut room);
-    write_counts(&counts);
-    say(b"asked");
-    say_number(tally.asked);
-    say(b", wrong");
-    say_number(tally.wrong);
-    say(b", first");
-    say_number(tally.first);
-    say(b"\n");
+    write_counts(&rt, &counts);
+    say(&rt, b"asked");
+    say_number(&rt, tally.asked);
+    say(&rt, b", wrong");
+    say_number(&rt, tally.wrong);
+    say(&rt, b", first");
+    say_number(&rt, tally.first);
+    say(&rt, b"\n");
 }

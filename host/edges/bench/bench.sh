@@ -7,15 +7,15 @@ root=$(cd "$here/../../.." && pwd)
 scratch=${1:-$(mktemp -d)}
 mkdir -p "$scratch/crates/speed/src"
 for crate in text names emit components component_walk ends path join strings normal path_rules patterns compare book meeting faults verdicts usual record_checker checker; do
-    rm -rf "$scratch/crates/$crate"
-    cp -r "$root/crates/$crate" "$scratch/crates/"
+    mkdir -p "$scratch/crates/$crate"
+    find "$scratch/crates/$crate" -mindepth 1 -maxdepth 1 ! -name out -exec rm -r {} +
+    tar -C "$root/crates/$crate" --exclude=./out -c . | tar -C "$scratch/crates/$crate" -x
 done
 cp "$here/wrapper.txt" "$scratch/crates/speed/src/lib.rt"
 grep -E '^(text|names|emit|components|component_walk|ends|path|join|strings|normal|path_rules|patterns|compare|book|meeting|faults|verdicts|usual|record_checker|checker):' "$root/crates.txt" >"$scratch/crates.txt"
-echo 'speed: text names emit components component_walk ends path join strings normal path_rules patterns compare book meeting faults verdicts usual record_checker checker' >>"$scratch/crates.txt"
-if [ ! -d "$scratch/target" ] && [ -d "$root/target" ]; then cp -r "$root/target" "$scratch/target"; fi
-(cd "$scratch" && rt staticlib speed >"$scratch/rt.log" 2>&1) || { tail "$scratch/rt.log"; exit 1; }
-export PROVED="$scratch/target/staticlib"
+echo 'speed staticlib: text names emit components component_walk ends path join strings normal path_rules patterns compare book meeting faults verdicts usual record_checker checker' >>"$scratch/crates.txt"
+(cd "$scratch/crates/speed" && rt lib >"$scratch/rt.log" 2>&1) || { tail "$scratch/rt.log"; exit 1; }
+export PROVED="$scratch/crates/speed/out"
 cargo build --release --offline --quiet --manifest-path "$here/Cargo.toml" --target-dir "$scratch/cargo"
 bench="$scratch/cargo/release/bench"
 

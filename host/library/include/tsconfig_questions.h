@@ -1,5 +1,5 @@
 /*
- * The questions about a book of tsconfig records, as proved C functions: link libquestions.a, which `rt staticlib questions` writes.
+ * The questions about a book of tsconfig records, as proved C functions: link libquestions.a, which `host/staticlib.sh` makes.
  *
  * A book is two slices. `commands` has the records, at most 32,768 bytes; `text` has the bytes that their strings are parts of, at most
  * 65,535. Every slice is an address and a length, and may hold any bytes: what is no book, no path or no specifier is refused. No address

@@ -143,8 +143,8 @@ fn sorted(mut functions: Vec<Function>) -> Vec<Function> {
 
 /// The functions of the Rattle source, with their slices.
 fn proved_functions() -> Vec<Function> {
-    let tokens = tokens_of("../../crates/questions/src/lib.rt");
-    let exported = after_each(&tokens, "# [ no_mangle ] pub extern \" C \" fn");
+    let tokens = tokens_of("../../crates/questions_c/src/lib.rt");
+    let exported = after_each(&tokens, "# [ unsafe ( no_mangle ) ] pub extern \" C \" fn");
     assert_eq!(exported.len(), after_each(&tokens, "extern").len(), "every extern function is exported by its name");
     assert!(!exported.is_empty());
     sorted(exported.into_iter().map(|at| function_at(&tokens, at)).collect())
@@ -198,7 +198,7 @@ fn the_header_declares_the_proved_functions() {
 
 fn proved_fields() -> Vec<Named> {
     let tokens = tokens_of("../../crates/replies/src/lib.rt");
-    let at = after_only(&tokens, "# [ repr ( C ) ] pub struct Numbers {");
+    let at = after_only(&tokens, "# [ repr ( C ) ] # [ derive ( Clone , Copy ) ] pub struct Numbers {");
     parts(&tokens, at, ",").0.into_iter().map(rust_named).collect()
 }
 
