@@ -13,7 +13,6 @@ use Rattle.text.specs.declared.Part.TheVariants as part
 use Rattle.emit.proofs.Emits.{emits_both}
 use Rattle.path.specs.Path.{strip_prefix}
 use Rattle.book.specs.declared.Cmd.{Cmd}
-use Rattle.book.specs.Command as command
 use Rattle.book.specs.Rules.{text_of}
 use Rattle.book.specs.Index.{record_at}
 use Rattle.book.specs.Sound.{All, Good}

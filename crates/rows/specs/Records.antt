@@ -1,6 +1,6 @@
 -- The records of an accepted book, and what the tables of its check say of them.
-use Rattle.std.specs.Prelude.{ℕ, ◌≤◌, ◌<◌, ◌≡◌, List, [], ◌∷◌, map, length, get_or}
-use Rattle.std.proofs.Math.Option.{Option, some, none}
+use Rattle.std.specs.Prelude.{ℕ, ◌≤◌, ◌<◌, ◌≡◌, List, [], map, length, get_or}
+use Rattle.std.proofs.Math.Option.{Option, none}
 use Rattle.text.specs.Bytes.{Text}
 use Rattle.text.specs.declared.Found.{Found}
 use Rattle.text.specs.declared.Found.TheVariants.{At, Nothing}

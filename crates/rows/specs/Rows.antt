@@ -1,6 +1,6 @@
 -- A merged config as the code holds it: a row of record numbers, one for each field and one for the base, and the record's own number. A value is
 -- what its supplier says.
-use Rattle.std.specs.Prelude.{ℕ, ◌+◌, ◌*◌, ◌<◌, ◌≡◌, List, [], ◌∷◌, Bool, true, cond, eqb, ltb, length, get_or, take, drop}
+use Rattle.std.specs.Prelude.{ℕ, ◌+◌, ◌*◌, ◌<◌, ◌≡◌, List, true, cond, eqb, ltb, length, get_or, take, drop}
 use Rattle.path.specs.Path.{is_some}
 use Rattle.text.specs.declared.Found.{Found}
 use Rattle.text.specs.declared.Found.TheVariants.{At, Nothing}

@@ -1,5 +1,5 @@
 -- The directory and the base of a row's config. Assumes nothing.
-use mathlib.Core.Path.{◌≡◌, refl, sym, ap, subst, ◌∙◌}
+use mathlib.Core.Path.{◌≡◌, sym, ap, subst, ◌∙◌}
 use mathlib.Core.List.{List}
 use Prim.Native.Nat.{ℕ, ◌≤◌, ◌<◌}
 use native.Mathlib.Omega.{arith}
@@ -17,7 +17,7 @@ use Rattle.tsconfig.specs.Parsed.{own_base}
 use Rattle.tsconfig.specs.Build.{substituted}
 use Rattle.values.proofs.Reading.{dir_short}
 use Rattle.rows.specs.Records.{Records, records_of}
-use Rattle.rows.specs.Rows.{absent, base_place, own_place, number_of, begin_at, site_of, Row}
+use Rattle.rows.specs.Rows.{absent, base_place, number_of, begin_at, site_of, Row}
 use Rattle.rows.proofs.Lists.{get_d_any}
 use Rattle.rows.proofs.Fields.{found_rec, found_none, row_begin, site_path, site_base, own_sound, base_sound}
 

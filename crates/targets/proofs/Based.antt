@@ -7,7 +7,6 @@ use lib.ListN.{length, take}
 use Rattle.text.specs.Bytes.{Text}
 use Rattle.emit.specs.Emit.{Room, Emits, Holds}
 use Rattle.join.specs.Join.{normalize_with}
-use Rattle.book.specs.Command as command
 use Rattle.values.proofs.Lengths.{normalize_length}
 use Rattle.tsconfig.specs.Laid.{laid}
 use Rattle.targets.proofs.Lays.{laid_one_length}

@@ -6,8 +6,8 @@ use mathlib.Core.Option.{Option, some, none}
 use Rattle.text.specs.Bytes.{Text}
 use Rattle.text.specs.Text.{some_of}
 use Rattle.ends.specs.Ends.{extension}
-use Rattle.tsconfig.specs.Config.{Field, files, include, exclude}
-use Rattle.tsconfig.specs.Claims.{Site, allow_js, solution_style, no_references, is_empty_list, claims, named_file, included, excluded, outside}
+use Rattle.tsconfig.specs.Config.{files, include}
+use Rattle.tsconfig.specs.Claims.{Site, allow_js, solution_style, no_references, is_empty_list, claims, named_file, included, outside}
 
 not_listed : (path : Text) (o : Option (List Text)) → is_empty_list o ≡ true → named_file path o ≡ false
 unfolding is_empty_list named_file some_of

@@ -1,9 +1,8 @@
 -- The built config: `TsConfig::build`.
-use Rattle.std.specs.Prelude.{List, [], ◌∷◌, map, cond, ℕ, eqb, drop}
+use Rattle.std.specs.Prelude.{[], ◌∷◌, map, cond, eqb, drop}
 use Rattle.tsconfig.specs.Config.{Field, files, include, exclude, base_url, paths, root_dirs, out_dir, declaration_dir, flag, text, Config, mapped}
 use Rattle.text.specs.Bytes.{Text, slash}
 use Rattle.names.specs.Names.{config_dir}
-use Rattle.book.specs.Record.{Key}
 use Rattle.tsconfig.specs.Parsed.{Value}
 use Rattle.text.specs.Text.{prefix_of}
 use Rattle.ends.specs.Ends.{parent_of}

@@ -1,7 +1,7 @@
 -- The file test over a built config (is_file_included_in_tsconfig), what a config claims, and the solution.
 use Rattle.std.specs.Prelude.{List, [], ◌∷◌, ◌++◌, Bool, true, false, not, ◌&&◌, ◌||◌, cond, ℕ, eqb}
 use Rattle.std.proofs.Math.Option.{Option, some, none, get_or}
-use Rattle.tsconfig.specs.Config.{Field, files, include, exclude, flag}
+use Rattle.tsconfig.specs.Config.{files, include, exclude, flag}
 use Rattle.text.specs.Bytes.{Text, bytes, slash, dot, star, question}
 use Rattle.text.specs.Text.{same_text, some_of}
 use Rattle.names.specs.Names.{is_ts_extension, is_js_extension}

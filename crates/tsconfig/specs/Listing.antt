@@ -1,7 +1,7 @@
 -- A build's whole output.
-use Rattle.std.specs.Prelude.{List, [], ◌∷◌, ◌++◌, Bool, cond, ℕ, zero, suc, ◌+◌, ◌-◌, ltb}
+use Rattle.std.specs.Prelude.{List, [], ◌∷◌, ◌++◌, Bool, cond, ℕ, zero, suc, ◌+◌, ltb}
 use Rattle.std.proofs.Math.Option.{Option, some, none}
-use Rattle.tsconfig.specs.Config.{Field, files, include, exclude, base_url, paths, root_dirs, out_dir, declaration_dir, flag, text}
+use Rattle.tsconfig.specs.Config.{files, include, exclude, base_url, paths, root_dirs, out_dir, declaration_dir, flag, text}
 use Rattle.text.specs.Bytes.{Text, bytes}
 use Rattle.book.specs.Record.{Key}
 use Rattle.tsconfig.specs.Build.{Settings}

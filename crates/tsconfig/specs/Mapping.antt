@@ -1,7 +1,7 @@
 -- Path mapping: key choice, candidates and tries.
-use Rattle.std.specs.Prelude.{List, [], ◌∷◌, ◌++◌, map, Bool, true, false, not, ◌&&◌, cond, ℕ, suc, eqb, ltb, length, take, drop}
+use Rattle.std.specs.Prelude.{List, [], ◌∷◌, ◌++◌, map, Bool, true, ◌&&◌, cond, ℕ, suc, ltb, length, take, drop}
 use Rattle.std.proofs.Math.Option.{Option, some, none, get_or}
-use Rattle.tsconfig.specs.Config.{Field, base_url, paths, root_dirs}
+use Rattle.tsconfig.specs.Config.{base_url, paths, root_dirs}
 use Rattle.text.specs.Bytes.{Text, dot}
 use Rattle.book.specs.Record.{Key}
 use Rattle.text.specs.Text.{same_text, star_of}

@@ -1,5 +1,5 @@
 -- A record as parsed: TsConfig::parse over a record of the book.
-use Rattle.std.specs.Prelude.{List, [], map, Bool, cond}
+use Rattle.std.specs.Prelude.{List, map, Bool, cond}
 use Rattle.std.proofs.Math.Option
 use Rattle.std.proofs.Math.Option.{Option, some, none}
 use Rattle.text.specs.Bytes.{Text}

@@ -2,10 +2,10 @@
 -- Assumes nothing.
 use mathlib.Core.Path.{◌≡◌, refl, sym, ap, ap₂, ◌∙◌}
 use mathlib.Core.List.{List, [], ◌∷◌, ◌++◌, map, append_assoc, append-nil, Memᴰ}
-use mathlib.Core.Option.{Option, some, none, get_or}
+use mathlib.Core.Option.{get_or}
 use Prim.Native.Nat.{ℕ, zero, suc, ◌<◌}
-use Rattle.tsconfig.specs.Config.{Field, base_url, paths, Config, ◌or_else◌, first, last, base_if, merge, flat}
-use Rattle.tsconfig.specs.Bracket.{Tree, leaf, join, leaves, eval}
+use Rattle.tsconfig.specs.Config.{Field, base_url, paths, Config, first, last, base_if, flat}
+use Rattle.tsconfig.specs.Bracket.{Tree, leaf, join, leaves}
 use Rattle.tsconfig_resolver.specs.Line.{Configs, lines, parents, rest, above, line, flat_line}
 use Rattle.book.specs.Answer.{given}
 use Rattle.tsconfig_resolver.specs.Load.{Loaded, load_asked}

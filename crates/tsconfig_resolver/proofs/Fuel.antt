@@ -3,14 +3,14 @@
 use mathlib.Core.Path.{◌≡◌, refl, sym, ap, ap₂, ◌∙◌, fun_ext}
 use mathlib.Core.List.{List, [], ◌∷◌, reverse, Memᴰ}
 use mathlib.Core.Bool.{Bool, true, false, ◌||◌, not, cond}
-use mathlib.Core.Option.{Option, some, none}
-use Prim.Native.Nat.{ℕ, zero, suc, ◌+◌, ◌≤◌, ◌<◌}
+use mathlib.Core.Option.{some}
+use Prim.Native.Nat.{ℕ, zero, suc, ◌≤◌, ◌<◌}
 use native.Mathlib.Omega.{arith}
 use borrow.Author.Tests.{eqb-true, eq-eqb}
 use lib.Dec.{eqb}
 use Rattle.tsconfig.specs.Config.{Field, Config, merge}
-use Rattle.tsconfig_resolver.specs.Line.{Configs, Entry, empty, bare, missing, leads, led, tally, parents}
-use Rattle.book.specs.Answer.{Answer, refused, ◌>>=◌, unless, given}
+use Rattle.tsconfig_resolver.specs.Line.{Configs, Entry, empty, bare, missing, leads, led, parents}
+use Rattle.book.specs.Answer.{Answer, refused, ◌>>=◌, unless}
 use Rattle.tsconfig_resolver.specs.Load.{Loaded, State, add, unread, recall, counted, walk, put, done, refusal, fresh, free, load_by, load}
 use Rattle.tsconfig_resolver.proofs.Tally.{tally_ext, tally_add}
 

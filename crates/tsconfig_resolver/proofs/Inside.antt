@@ -1,18 +1,16 @@
 -- A book's entries lead to its own records.
 -- Assumes nothing.
-use mathlib.Core.Path.{◌≡◌, refl, sym, ap, ◌∙◌, subst}
 use mathlib.Core.List.Memᴰ
 use mathlib.Core.List.{List, [], ◌∷◌, map, reverse, reverse_aux, Memᴰ}
 use mathlib.Core.Logic.{⊎_elim}
 use mathlib.Core.Bool.{Bool, true, false, cond, ◌||◌}
 use mathlib.Core.Option
 use mathlib.Core.Option.{Option, some, none}
-use Prim.Native.Nat.{ℕ, zero, suc, ◌<◌}
+use Prim.Native.Nat.{ℕ, suc, ◌<◌}
 use native.Mathlib.Omega.{arith}
 use lib.Dec.{eqb}
 use lib.ListN.{length, length-map}
-use Rattle.tsconfig.specs.Config.{Field}
-use Rattle.tsconfig_resolver.specs.Line.{Configs, Entry, empty, bare, missing, leads, led, parents}
+use Rattle.tsconfig_resolver.specs.Line.{Entry, empty, bare, missing, leads, led, parents}
 use Rattle.text.specs.Bytes.{Text, slash, dot}
 use Rattle.text.specs.Text.{same_text}
 use Rattle.tsconfig.specs.Parsed.{Parsed}

@@ -3,13 +3,13 @@
 use mathlib.Core.Path.{◌≡◌, refl, sym, ap, ap₂, ◌∙◌}
 use mathlib.Core.Bool.{Bool, true, false, ◌||◌, false≢true}
 use mathlib.Core.List.{List, [], ◌∷◌, ◌++◌, Memᴰ}
-use Prim.Native.Nat.{ℕ, zero, suc, ◌+◌, ◌≤◌, ◌<◌}
+use Prim.Native.Nat.{ℕ, zero, suc, ◌≤◌, ◌<◌}
 use native.Mathlib.Omega.{arith}
 use borrow.Author.Tests.{eqb-true}
 use lib.Dec.{eqb}
 use Rattle.tsconfig_resolver.proofs.Tally.{Below, below_append, elem_append}
 use Rattle.tsconfig.specs.Config.{Field}
-use Rattle.tsconfig_resolver.specs.Line.{Configs, lines, elem, parents, rest, line}
+use Rattle.tsconfig_resolver.specs.Line.{Configs, lines, elem, parents, rest}
 
 pub lines_same : (u v : ℕ → List ℕ) (ps : List ℕ) → ((p : ℕ) → Memᴰ p ps → u p ≡ v p) → lines u ps ≡ lines v ps
 lines_same u v [] h = refl

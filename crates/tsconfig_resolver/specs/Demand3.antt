@@ -1,6 +1,6 @@
 -- Demand 3: what holds where a config loads without refusal.
 use Rattle.std.specs.Prelude.{◌≡◌, List, [], ◌∷◌, map, true, false, ℕ, zero, suc, ◌≤◌}
-use Rattle.std.proofs.Math.Option.{Option, some, get_or}
+use Rattle.std.proofs.Math.Option.{get_or}
 use Rattle.tsconfig.specs.Config.{Field, base_url, paths, Config, first, last, base_if, merge}
 use Rattle.tsconfig.specs.Bracket.{Tree, leaf, join, leaves, eval}
 use Rattle.tsconfig_resolver.specs.Line.{Configs, lines, elem, parents, rest, above, line, flat_line, entries_of}

@@ -6,7 +6,7 @@ use Rattle.text.specs.Bytes.{Text, slash, dot}
 use Rattle.ends.specs.Ends.{parent_of}
 use Rattle.join.specs.Join.{normalize_with}
 use Rattle.book.specs.Find.{locate}
-use Rattle.tsconfig.specs.Config.{Field, Config}
+use Rattle.tsconfig.specs.Config.{Field}
 use Rattle.tsconfig.specs.Parsed.{Value, Parsed}
 use Rattle.tsconfig_resolver.specs.Line.{Configs, Entry, empty, bare, missing, leads}
 

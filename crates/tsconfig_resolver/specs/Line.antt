@@ -1,5 +1,5 @@
 -- The configs as the load sees them, and a config's line of inheritance.
-use Rattle.std.specs.Prelude.{List, [], ◌∷◌, ◌++◌, map, reverse, Bool, true, false, ◌||◌, cond, ℕ, zero, suc, ◌+◌, eqb, length}
+use Rattle.std.specs.Prelude.{List, [], ◌∷◌, ◌++◌, map, reverse, Bool, false, ◌||◌, cond, ℕ, zero, suc, ◌+◌, eqb, length}
 use Rattle.tsconfig.specs.Config.{Field, Config, flat}
 
 -- what an extends entry leads to

@@ -1,10 +1,10 @@
 -- A config loaded with its references, and the owner of a file.
-use Rattle.std.specs.Prelude.{List, [], ◌∷◌, Bool, true, false, cond, ℕ, zero, suc, ◌-◌, length}
+use Rattle.std.specs.Prelude.{List, [], ◌∷◌, cond, ℕ, zero, suc, ◌-◌, length}
 use Rattle.std.proofs.Math.Option.{Option, some, none}
 use Rattle.book.specs.Find.{find, locate}
 use Rattle.book.specs.Answer.{Answer, refused, given, ◌>>=◌}
-use Rattle.tsconfig.specs.Config.{Field, Config}
-use Rattle.tsconfig_resolver.specs.Load.{Loaded, State, load_asked}
+use Rattle.tsconfig.specs.Config.{Config}
+use Rattle.tsconfig_resolver.specs.Load.{State, load_asked}
 use Rattle.tsconfig_resolver.specs.References.{refer}
 use Rattle.text.specs.Bytes.{Text}
 use Rattle.names.specs.Names.{tsconfig_json}

@@ -1,11 +1,11 @@
 -- The references of the asked config, in order: the self test, then the reference's own extends, its chain starting empty with each parent.
 -- References of references are not loaded, and their merges are not counted.
-use Rattle.std.specs.Prelude.{List, [], ◌∷◌, reverse, false, cond, ℕ, eqb}
-use Rattle.std.proofs.Math.Option.{Option, some, none}
-use Rattle.tsconfig.specs.Config.{Field, Config}
+use Rattle.std.specs.Prelude.{reverse, false, cond, ℕ, eqb}
+use Rattle.std.proofs.Math.Option.{some, none}
+use Rattle.tsconfig.specs.Config.{Field}
 use Rattle.tsconfig_resolver.specs.Line.{Configs}
-use Rattle.book.specs.Answer.{Answer, refused, ◌>>=◌, unless, given}
-use Rattle.tsconfig_resolver.specs.Load.{Loaded, State, done, unread, walk, load}
+use Rattle.book.specs.Answer.{Answer, unless}
+use Rattle.tsconfig_resolver.specs.Load.{Loaded, State, unread, walk, load}
 
 module _ {Val : Field → Type 0} {B : Type 0} (b : Configs Val B) where
   -- the reference r of the record c

@@ -1,5 +1,4 @@
 use mathlib.Core.Path.{refl, sym, ap, ◌∙◌}
-use Prim.Native.Nat.{◌-◌}
 use lib.ListN.{length, length-drop}
 use Rattle.compare.specs.Compare.{digest_of}
 use Rattle.checker.proofs.Books.{booked_none, booked_end, booked_refused, booked_few, booked_less, booked_on, size_commands, size_text}

@@ -1,4 +1,3 @@
-use Prim.Native.Nat.{◌-◌}
 use mathlib.Core.Path.{refl, ◌∙◌}
 use Rattle.choice.specs.Keyed.{key_at}
 use Rattle.keys.proofs.Laws.{star_in}

@@ -1,4 +1,3 @@
-use Prim.Native.Nat.{◌-◌}
 use mathlib.Core.Path.{refl, ◌∙◌}
 use Rattle.choice.proofs.Chosen.{item_less, equal_end, equal_found, equal_passed}
 use borrow.Author.Rules.{rules}

@@ -1,6 +1,5 @@
 use Rattle.claims.proofs.Listed.{items_end, items_less, items_rest, items_short, items_here, items_on}
 use mathlib.Core.Path.{refl, sym, ◌∙◌}
-use Prim.Native.Nat.{◌-◌}
 use Rattle.path.specs.Path.{same_path}
 use Rattle.claims.proofs.is_named_file.Goals as goal
 

@@ -1,6 +1,5 @@
 use Rattle.claims.proofs.Listed.{items_end, items_less, items_rest, items_short, items_here, items_on}
 use mathlib.Core.Path.{refl, sym, ◌∙◌}
-use Prim.Native.Nat.{◌-◌}
 use Rattle.tsconfig.specs.Claims.{matched}
 use Rattle.claims.proofs.is_some_matched.Goals as goal
 

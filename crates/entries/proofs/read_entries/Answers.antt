@@ -1,4 +1,3 @@
-use Prim.Native.Nat.{◌-◌}
 use mathlib.Core.Path.{sym, ap, ◌∙◌}
 use Rattle.records.specs.Paths.{path_table}
 use Rattle.entries.specs.Codes.{entry_at}

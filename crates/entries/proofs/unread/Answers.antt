@@ -1,4 +1,3 @@
-use Prim.Native.Nat.{◌-◌}
 use Rattle.entries.proofs.Entries.{unread_start, unread_on, unread_stop, unread_all}
 use native.Mathlib.Omega.{arith}
 use Rattle.entries.proofs.unread.Goals as goal

@@ -1,4 +1,3 @@
-use Prim.Native.Nat.{◌-◌}
 use mathlib.Core.Path.{refl, sym, ◌∙◌}
 use Rattle.items.proofs.Items.{option_end, option_here, option_on, option_less}
 use Rattle.items.proofs.next_option.Goals as goal

@@ -1,5 +1,4 @@
 use mathlib.Core.Path.{refl}
-use Prim.Native.Nat.{◌-◌}
 use Rattle.emit.proofs.Emits.{owes_all, owes_step, owes_room, owes_end}
 use Rattle.lines.proofs.Turns.{item_less, rows_end, rows_turn}
 use borrow.Author.Rules.{rules}

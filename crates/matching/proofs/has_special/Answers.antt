@@ -1,5 +1,4 @@
 use Rattle.matching.proofs.Patterns.{some_here, some_on, some_end}
-use Prim.Native.Nat.{◌-◌}
 use Rattle.tsconfig.specs.Claims.{is_special}
 use borrow.Author.Rules.{rules}
 use Rattle.matching.proofs.has_special.Goals as goal

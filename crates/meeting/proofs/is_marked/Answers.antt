@@ -1,5 +1,4 @@
 use mathlib.Core.Path.{refl}
-use Prim.Native.Nat.{◌-◌}
 use Rattle.meeting.proofs.Marks.{mark_step, mark_end}
 use native.Mathlib.Omega.{arith}
 use Rattle.meeting.proofs.is_marked.Goals as goal

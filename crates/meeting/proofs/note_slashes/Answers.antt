@@ -1,5 +1,4 @@
 use mathlib.Core.Path.{sym, ◌∙◌}
-use Prim.Native.Nat.{◌-◌}
 use Rattle.meeting.proofs.Signs.{noting_none, noting_on, noting_clean, noting_done}
 use native.Mathlib.Omega.{arith}
 use Rattle.meeting.proofs.note_slashes.Goals as goal

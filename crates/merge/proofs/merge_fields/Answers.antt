@@ -1,4 +1,3 @@
-use Prim.Native.Nat.{◌-◌}
 use Rattle.rows.proofs.Merge.{merge_start, merge_step, merge_end}
 use native.Mathlib.Omega.{arith}
 use borrow.Author.Rules.{rules}

@@ -1,5 +1,4 @@
 use mathlib.Core.Path.{◌≡◌, refl, ap, ◌∙◌}
-use Prim.Native.Nat.{◌-◌}
 use lib.ListN.{length}
 use Rattle.rows.proofs.Lists.{row_length}
 use Rattle.rows.proofs.Tables.{copy_step, copy_end}

@@ -1,5 +1,4 @@
 use mathlib.Core.Path.{refl}
-use Prim.Native.Nat.{◌-◌}
 use native.Mathlib.Omega.{arith}
 use Rattle.emit.proofs.Emits.{owes_all, owes_step, owes_room, owes_end}
 use Rattle.options.proofs.Ways.{flags_end, flags_turn, reach}

@@ -1,5 +1,4 @@
 use mathlib.Core.Path.{refl, sym, ◌∙◌}
-use Prim.Native.Nat.{◌-◌}
 use native.Mathlib.Omega.{arith}
 use Rattle.verdicts.proofs.Turns.{sofar_none, turn_broken, turn_end, turn_refused, turn_less, byte_known, slot_small, slot_room}
 use Rattle.record_checker.proofs.Passes.{moved_on, stood}

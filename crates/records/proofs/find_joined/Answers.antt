@@ -1,4 +1,3 @@
-use Prim.Native.Nat.{◌-◌}
 use mathlib.Core.List.{◌++◌}
 use Rattle.join.specs.Join.{slash_if}
 use Rattle.records.proofs.Paths.{find_start, find_none, find_here, find_on}

@@ -1,4 +1,3 @@
-use Prim.Native.Nat.{◌-◌}
 use mathlib.Core.List.{[], ◌++◌}
 use Rattle.join.specs.Join.{slash_if}
 use Rattle.text.specs.Text.{prefix_of}

@@ -1,4 +1,3 @@
-use Prim.Native.Nat.{◌-◌}
 use Rattle.records.proofs.Paths.{unlike_none, unlike_on}
 use native.Mathlib.Omega.{arith}
 use Rattle.records.proofs.next_like.Goals as goal

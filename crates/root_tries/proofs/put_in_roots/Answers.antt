@@ -1,4 +1,3 @@
-use Prim.Native.Nat.{◌-◌}
 use Rattle.roots.proofs.Roots.{roots_less}
 use Rattle.root_tries.proofs.Others.{others_start, others_end, others_short, others_skip, others_read, others_few, others_on}
 use native.Mathlib.Omega.{arith}

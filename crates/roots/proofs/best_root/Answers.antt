@@ -1,4 +1,3 @@
-use Prim.Native.Nat.{◌-◌}
 use Rattle.roots.proofs.Roots.{bests_start, bests_end, bests_short, bests_small, bests_shorter, bests_other, bests_taken, roots_less}
 use native.Mathlib.Omega.{arith}
 use borrow.Author.Rules.{rules}

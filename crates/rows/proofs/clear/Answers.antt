@@ -1,4 +1,3 @@
-use Prim.Native.Nat.{◌-◌}
 use Rattle.rows.proofs.Own.{blank_start, blank_step, blank_end}
 use native.Mathlib.Omega.{arith}
 use borrow.Author.Rules.{rules}

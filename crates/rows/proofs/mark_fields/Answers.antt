@@ -1,5 +1,4 @@
 use mathlib.Core.Path.{refl, ◌∙◌}
-use Prim.Native.Nat.{◌-◌}
 use Rattle.items.proofs.Items.{read_less}
 use Rattle.rows.proofs.Own.{marks_end, marks_broken, marks_stop, marks_on}
 use borrow.Author.Rules.{rules}

@@ -1,4 +1,3 @@
-use Prim.Native.Nat.{◌-◌}
 use mathlib.Core.List.{[]}
 use mathlib.Core.Bool.{true}
 use Rattle.targets.proofs.Aims.{puts_start, puts_end, puts_asks, puts_few, puts_on, as_less}

@@ -1,20 +1,20 @@
 -- A reference that loads is the flat config of its own line, and leaves the tables sound.
 -- Assumes nothing.
 use mathlib.Core.Path.{◌≡◌, refl, sym, ap, ◌∙◌}
-use mathlib.Core.List.{List, [], ◌∷◌, map, reverse, Memᴰ}
+use mathlib.Core.List.{[], map, reverse, Memᴰ}
 use mathlib.Core.Bool.{Bool, true, false, ◌||◌, cond, false≢true}
-use mathlib.Core.Option.{Option, some, none}
+use mathlib.Core.Option.{some, none}
 use Prim.Native.Nat.{ℕ, suc, ◌<◌}
 use native.Mathlib.Omega.{arith}
 use lib.Dec.{eqb}
-use Rattle.tsconfig.specs.Config.{Field, Config, flat}
+use Rattle.tsconfig.specs.Config.{Field, flat}
 use Rattle.tsconfig_resolver.specs.Line.{Configs, lines, parents, above, flat_line}
 use Rattle.book.specs.Answer.{Answer, given, unless}
 use Rattle.tsconfig_resolver.specs.Load.{State, Loaded, unread, walk, free, load}
 use Rattle.tsconfig_resolver.specs.References.{refer}
 use Rattle.tsconfig.proofs.Flat.{flat_one}
 use Rattle.tsconfig_resolver.proofs.Tally.{tally_le, tally_add}
-use Rattle.tsconfig_resolver.proofs.Line.{Within, rest_step}
+use Rattle.tsconfig_resolver.proofs.Line.{rest_step}
 use Rattle.tsconfig_resolver.proofs.Load.{has, Sound, held, lines_mem, or_right, unless_given, walk_step, load_step}
 
 module _ {Val : Field → Type 0} {B : Type 0} (b : Configs Val B) (inside : (c p : ℕ) → Memᴰ p (parents b c) → p < b.size) where

@@ -1,7 +1,7 @@
 -- The merges counted never outgrow the extends entries of the book: what the code's counter needs at each step.
 -- Assumes nothing.
-use mathlib.Core.Path.{◌≡◌, refl, sym, ap, ◌∙◌}
-use mathlib.Core.List.{List, []}
+use mathlib.Core.Path.{◌≡◌, refl}
+use mathlib.Core.List.{List}
 use mathlib.Core.Bool.{Bool, true, false, cond, true≢false}
 use Prim.Native.Nat.{ℕ, zero, suc, ◌+◌, ◌*◌, ◌≤◌, ◌<◌}
 use native.Mathlib.Omega.{arith}
@@ -10,7 +10,7 @@ use Rattle.tsconfig.specs.Config.{Field}
 use Rattle.tsconfig_resolver.specs.Line.{Configs, tally}
 use Rattle.tsconfig_resolver.specs.Load.{State, add}
 use Rattle.tsconfig_resolver.proofs.Tally.{tally_add}
-use Rattle.tsconfig_resolver.proofs.Load.{has, Table, Clear, Step, worth}
+use Rattle.tsconfig_resolver.proofs.Load.{has, Clear, Step, worth}
 
 -- two tests that never pass together weigh no more than all there is
 apart_le : (w : ℕ → ℕ) (d e : ℕ → Bool) (m : ℕ) → ((i : ℕ) → w i ≤ m) → ((i : ℕ) → e i ≡ true → d i ≡ false) → (n : ℕ) → tally n w d + tally n w e ≤ n * m

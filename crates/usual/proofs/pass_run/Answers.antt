@@ -1,7 +1,6 @@
 use Rattle.usual.proofs.Most.{now, most_small}
 use Rattle.usual.proofs.Passing.{stay, known, run_none, run_ends, long, run_more}
 use native.Mathlib.Omega.{arith}
-use Prim.Native.Nat.{◌-◌}
 use Rattle.usual.proofs.pass_run.Goals as goal
 
 pub most_now-most-requires : goal.most_now-most-requires

@@ -1,6 +1,5 @@
 use Rattle.values.proofs.Forms.{slashes_here, slashes_on, slashes_end}
 use mathlib.Core.Path.{refl}
-use Prim.Native.Nat.{◌-◌}
 use native.Mathlib.Omega.{arith}
 use Rattle.values.proofs.without_slashes.Goals as goal
 
