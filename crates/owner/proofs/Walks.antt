@@ -1,32 +1,31 @@
 -- The owner: what claims the path among the references, and the walk over the folders. Assumes nothing.
 use mathlib.Core.Path.{◌≡◌, refl, sym, ap, ap₂, subst, ◌∙◌}
 use mathlib.Core.List.{List, [], ◌∷◌, ◌++◌}
-use mathlib.Core.Bool.{Bool, true, false, not, ◌&&◌, ◌||◌, cond, true≢false, and-false, or-false}
+use mathlib.Core.Bool.{Bool, true, false, ◌||◌, cond}
 use mathlib.Core.Option.{Option, some, none, get_or}
 use Prim.Native.Nat.{ℕ, zero, suc, ◌+◌, ◌-◌, ◌*◌, ◌≤◌, ◌<◌}
 use native.Mathlib.Numerals.{add-one}
 use native.Mathlib.Omega.{arith}
 use lib.ListN.{length, take, drop, length-take}
-use lib.Seq.{take-take, take-length}
+use lib.Seq.{take-take}
 use Rattle.emit.specs.Emit.{Holds}
 use lib.Dec.{leb}
 use borrow.Author.Tests.{leb-true, leb-false}
 use Rattle.text.specs.Bytes.{Text}
 use Rattle.names.specs.Names.{tsconfig_json}
 use Rattle.text.specs.Text.{some_of, between}
-use Rattle.ends.specs.Ends.{parent_of, extension}
+use Rattle.ends.specs.Ends.{parent_of}
 use Rattle.join.specs.Join.{push_of}
 use Rattle.components.specs.Components.{components, inside_node_modules}
 use Rattle.path.specs.Path.{is_some}
 use Rattle.text.proofs.Picks.{by_test}
-use Rattle.book.specs.Answer.{Answer, refused, given, ◌>>=◌}
+use Rattle.book.specs.Answer.{Answer, refused, given}
 use Rattle.book.specs.Find.{find}
-use Rattle.tsconfig.specs.Config.{Field, files, include, exclude}
 use Rattle.tsconfig.specs.Parsed.{Parsed}
 use Rattle.tsconfig.specs.Claims.{Site, claims, claims_ownership, solution, solution_style}
 use Rattle.tsconfig.proofs.Style.{solution_style_idle}
 use Rattle.tsconfig_resolver.specs.Find.{paths_of}
-use Rattle.tsconfig_resolver.specs.Project.{Project, Owner, load_record, owned, owner_at, owner_from, owner_of, folders}
+use Rattle.tsconfig_resolver.specs.Project.{Owner, load_record, owned, owner_at, owner_from, owner_of, folders}
 use Rattle.owner.specs.declared.Owned.{Owned}
 use Rattle.owner.specs.declared.Owned.TheVariants.{Refused, Nobody, By}
 use Rattle.owner.specs.Owned.{claimer, answered, Held, OwnedAs, FolderAs}

@@ -6,7 +6,7 @@ use Rattle.book.specs.Answer.{Answer, refused, given}
 use Rattle.rows.specs.Rows.{Row, row_at}
 use Rattle.tsconfig.specs.Parsed.{Parsed}
 use Rattle.tsconfig.specs.Claims.{Site, claims}
-use Rattle.tsconfig_resolver.specs.Project.{Project, Owner, owned, owner_at}
+use Rattle.tsconfig_resolver.specs.Project.{Owner, owned, owner_at}
 use Rattle.owner.specs.declared.Owned.{Owned}
 use Rattle.owner.specs.declared.Owned.TheVariants.{Refused, Nobody, By}
 

@@ -21,7 +21,6 @@ use Rattle.book.specs.Command as command
 use Rattle.book.specs.Record.{is, strings, listed}
 use Rattle.book.specs.Index.{record_at}
 use Rattle.book.specs.Sound.{All, Good}
-use Rattle.items.specs.declared.Item.TheVariants.{At}
 use Rattle.items.proofs.Items.{listed_is, listed_not}
 use Rattle.tsconfig.specs.Config.{base_url, root_dirs}
 use Rattle.tsconfig.specs.Parsed.{placed, placed_value, said}

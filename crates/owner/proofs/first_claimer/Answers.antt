@@ -1,6 +1,5 @@
 use mathlib.Core.Path.{ap, ◌∙◌}
 use mathlib.Core.Option.{some}
-use Prim.Native.Nat.{◌-◌}
 use Rattle.rows.specs.Records.{records_of}
 use Rattle.owner.proofs.Walks.{search_start, search_end, search_found, search_on, row_is, row_held}
 use native.Mathlib.Omega.{arith}

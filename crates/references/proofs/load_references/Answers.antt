@@ -1,4 +1,3 @@
-use Prim.Native.Nat.{◌-◌}
 use mathlib.Core.Path.{sym, ◌∙◌}
 use Rattle.rows.specs.Records.{records_of}
 use Rattle.entries.proofs.Dirs.{begin_there, inside_records}
