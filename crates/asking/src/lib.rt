@@ -355,14 +355,18 @@ fn answer_all(
     }
 }
 
-// Reads a file whole, as far as there is room. Says what is wrong where it cannot be read.
-pub fn load(rt: &(impl Files + Eprint), name: &str, room: &mut [u8]) -> Found
+// Reads a file whole, as far as there is room. Says what is wrong where it cannot be read, or where its name is no text.
+pub fn load(rt: &(impl Files + Eprint), name: &[u8], room: &mut [u8]) -> Found
     ensures { Within (length room.old) result }
 {
-    match read_file(rt, name, room) {
+    let Ok(path) = std::str::from_utf8(name) else {
+        let _ = eprintln!(rt; "the name of a file is no text");
+        return Found::Nothing;
+    };
+    match read_file(rt, path, room) {
         Ok(n) => Found::At(n),
         Err(error) => {
-            fail(rt, name, error);
+            fail(rt, path, error);
             Found::Nothing
         }
     }
@@ -380,10 +384,10 @@ fn answer_stdin(rt: &(impl Input + Print + Eprint), commands: &[u8], text: &[u8]
 pub fn run(rt: &(impl Files + Input + Print + Eprint)) {
     let mut commands = [0u8; 32769];
     let mut text = [0u8; 65536];
-    let Found::At(m) = load(rt, "book.cmd", &mut commands) else {
+    let Found::At(m) = load(rt, b"book.cmd", &mut commands) else {
         return;
     };
-    let Found::At(n) = load(rt, "book.txt", &mut text) else {
+    let Found::At(n) = load(rt, b"book.txt", &mut text) else {
         return;
     };
     answer_stdin(rt, upto(&commands, m), upto(&text, n));

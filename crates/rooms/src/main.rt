@@ -225,13 +225,13 @@ fn main(rt: HostRuntime) {
     let mut commands = [0u8; 32769];
     let mut text = [0u8; 65536];
     let mut list = [0u8; 65536];
-    let Found::At(m) = load(&rt, "book.cmd", &mut commands) else {
+    let Found::At(m) = load(&rt, b"book.cmd", &mut commands) else {
         return;
     };
-    let Found::At(n) = load(&rt, "book.txt", &mut text) else {
+    let Found::At(n) = load(&rt, b"book.txt", &mut text) else {
         return;
     };
-    let Found::At(k) = load(&rt, "questions", &mut list) else {
+    let Found::At(k) = load(&rt, b"questions", &mut list) else {
         return;
     };
     check_all(&rt, upto(&commands, m), upto(&text, n), upto(&list, k));

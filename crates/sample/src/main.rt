@@ -292,7 +292,7 @@ fn main(rt: HostRuntime) {
     let mut list = [0u8; 524288];
     let mut room = [0u8; 8192];
     let mut counts = [0u64; 14];
-    let Found::At(size) = load(&rt, "sample.bin", &mut list) else {
+    let Found::At(size) = load(&rt, b"sample.bin", &mut list) else {
         return;
     };
     let tally = replay(upto(&list, size), &mut counts, &mut room);
