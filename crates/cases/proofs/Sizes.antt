@@ -3,7 +3,7 @@ use mathlib.Core.List.{[], ◌∷◌, ◌++◌}
 use mathlib.Core.Path.{◌≡◌, refl}
 use Rattle.text.specs.Bytes.{bytes}
 use Rattle.book.specs.Command as command
-use Rattle.verdicts.proofs.Written.{commands_of, at, alone, ◌says◌, times}
+use Rattle.verdicts.proofs.Written.{commands_of, at, ◌says◌, times}
 use Rattle.cases.specs.Asked.{tell, B, refuses, gives}
 
 -- a record's BEGIN, then bytes up to the size and past it; a record, and text up to the size and past it

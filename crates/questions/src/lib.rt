@@ -1,4 +1,4 @@
-// The questions, as C functions on numbers and byte slices.
+// The questions, on numbers and byte slices. `questions_c` has them as C functions.
 #![tactic(auto)]
 
 ghost use Rattle.std.specs.Prelude.{◌≡◌, true, ◌<◌, ◌≤◌, length};
