@@ -1,3 +1,2 @@
--- Laws of question lines and of filled outputs.
-pub mod Letters
+-- Laws of filled outputs.
 pub mod Filled

@@ -5,7 +5,7 @@ ghost use Rattle.std.specs.Prelude.{◌≡◌, length, drop, replicate, eqb};
 ghost use Rattle.text.specs.Text.{each_of, before_byte, after_byte};
 ghost use Rattle.asked.specs.Asked.{tab, has_tab, kind_of, pattern};
 
-use text::{Found, find_byte, from, part_after, part_before};
+use text::{find_byte, from, part_after, part_before};
 
 const TAB: u8 = 0x09;
 
@@ -13,50 +13,32 @@ const TAB: u8 = 0x09;
 const PATTERN: u8 = 0xA5;
 
 // What a line asks.
-#[derive(Clone, Copy)]
+#[derive(Clone, Copy, PartialEq, Eq)]
 pub enum Kind {
     Build,
     Owner,
     Candidates,
     Tries,
-    Unknown,
 }
 
+#[tactic(auto, unfolding(crate::specs::Asked::has_tab))]
 fn has_tab(s: &[u8]) -> bool
     ensures { result ≡ has_tab s.now }
 {
-    let Found::At(_) = find_byte(s, TAB) else {
-        return false;
-    };
-    true
+    find_byte(s, TAB).is_some()
 }
 
 // A letter, a blank, and the letter's fields, parted by tabs. A field holds no tab where another follows.
-pub fn kind_of(line: &[u8]) -> Kind
+#[tactic(auto, using(std::proofs::lemmas::Bool::Decides::nat_tests), unfolding(crate::specs::Asked::kind_of, crate::specs::Asked::by_letter))]
+pub fn kind_of(line: &[u8]) -> Option<Kind>
     ensures { result ≡ kind_of line.now }
 {
-    if line.len() < 2 {
-        return Kind::Unknown;
-    }
-    if line[1] != b' ' {
-        return Kind::Unknown;
-    }
-    match line[0] {
-        b'B' => Kind::Build,
-        b'O' => Kind::Owner,
-        b'C' => {
-            if has_tab(line) {
-                return Kind::Candidates;
-            }
-            Kind::Unknown
-        }
-        b'T' => {
-            if has_tab(part_after(line, TAB)) {
-                return Kind::Tries;
-            }
-            Kind::Unknown
-        }
-        _ => Kind::Unknown,
+    match line {
+        [b'B', b' ', ..] => Some(Kind::Build),
+        [b'O', b' ', ..] => Some(Kind::Owner),
+        [b'C', b' ', ..] if has_tab(line) => Some(Kind::Candidates),
+        [b'T', b' ', ..] if has_tab(part_after(line, TAB)) => Some(Kind::Tries),
+        _ => None,
     }
 }
 
@@ -85,23 +67,12 @@ pub fn other_fields(fields: &[u8]) -> &[u8]
 pub fn fill(room: &mut [u8])
     ensures { room.new ≡ replicate (length room.old) pattern }
 {
-    let mut i = 0;
-    while i < room.len() {
-        room[i] = PATTERN;
-        i += 1;
-    }
+    room.fill(PATTERN);
 }
 
 // Whether all of s is still as it was filled.
 pub fn is_kept(s: &[u8]) -> bool
     ensures { result ≡ each_of (eqb pattern) s.now }
 {
-    let mut i = 0;
-    while i < s.len() {
-        if s[i] != PATTERN {
-            return false;
-        }
-        i += 1;
-    }
-    true
+    s.iter().all(|x| *x == PATTERN)
 }

@@ -1,28 +1,74 @@
 // The components of a path one after the other: the next one, how many there are, and whether one is node_modules.
 #![tactic(auto)]
 
-ghost use Rattle.std.specs.Prelude.{◌≡◌, length, drop};
-ghost use Rattle.components.specs.Components.{split, components, inside_node_modules};
-ghost use Rattle.components.specs.Places.{next_part};
+ghost use Rattle.std.specs.Prelude.{◌≡◌, length, option_copied};
+ghost use Rattle.std.specs.Iterator.{YieldsFirstRef, item_count};
+ghost use Rattle.components.specs.Components.{split, names, trim_start, components, inside_node_modules};
+ghost use Rattle.component_walk.specs.Walk.{pieces, Takes};
 
-use components::{is_skipped, lead_len, piece_end};
+use components::{lead_len, piece_end};
 use names::is_node_modules;
-use text::{Part, between};
+use text::{DOT, SLASH};
 
-// The first component at or after `at`, where a piece begins.
-pub fn next_component(s: &[u8], at: usize) -> Part
-    ensures { result ≡ next_part at (split (drop at s.now)) }
+// s from its first component on: empty where there is none.
+#[tactic(auto, using(crate::proofs::Walk::fronts))]
+fn trim_start(s: &[u8]) -> &[u8]
+    ensures { pieces result.now ≡ trim_start (split s.now) }
 {
-    let mut i = at;
+    let mut t = s;
     loop {
-        let e = piece_end(s, i);
-        if !is_skipped(between(s, i, e)) {
-            return Part::Span(i, e);
+        t = match t {
+            [SLASH, rest @ ..] | [DOT, SLASH, rest @ ..] => rest,
+            [DOT] => return &t[..0],
+            _ => return t,
+        };
+    }
+}
+
+// The components of a path behind its lead: the names and `..`, without `.` and empty pieces.
+#[derive(Clone, Copy)]
+pub struct Components<'a> {
+    rest: &'a [u8],
+}
+
+impl<'a> Components<'a> {
+    pub fn new(s: &'a [u8]) -> Components<'a>
+        ensures { result.rest.now ≡ s.now }
+    {
+        Components { rest: s }
+    }
+
+    // The first component of what is left, which is then what stands behind it.
+    pub fn take_first(&mut self) -> Option<&'a [u8]>
+        ensures names { YieldsFirstRef (λ s. names (split s.rest.now)) self.old result self.new }
+        ensures takes { Takes self.old.rest.now (option_copied result) self.new.rest.now }
+    {
+        let s = trim_start(self.rest);
+        let (first, rest) = s.split_at(piece_end(s, 0));
+        self.rest = rest;
+        if first.is_empty() {
+            return None;
         }
-        if s.len() <= e {
-            return Part::Missing;
-        }
-        i = e + 1;
+        Some(first)
+    }
+
+    // What is left, from its first component on.
+    pub fn as_slice(&self) -> &'a [u8]
+        ensures { pieces result.now ≡ trim_start (split self.now.rest.now) }
+    {
+        trim_start(self.rest)
+    }
+}
+
+impl<'a> Iterator for Components<'a> {
+    type Item = &'a [u8];
+
+    ghost next_gives = { YieldsFirstRef (λ s. names (split s.rest.now)) };
+
+    ghost remaining = { item_count (λ s. names (split s.rest.now)) };
+
+    fn next(&mut self) -> Option<&'a [u8]> {
+        self.take_first()
     }
 }
 
@@ -30,30 +76,12 @@ pub fn next_component(s: &[u8], at: usize) -> Part
 pub fn inside_node_modules(s: &[u8]) -> bool
     ensures { result ≡ inside_node_modules s.now }
 {
-    let mut i = 0;
-    loop {
-        let e = piece_end(s, i);
-        if is_node_modules(between(s, i, e)) {
-            return true;
-        }
-        if s.len() <= e {
-            return false;
-        }
-        i = e + 1;
-    }
+    s.split(|b| *b == SLASH).any(is_node_modules)
 }
 
 // How many components s has.
 pub fn count_components(s: &[u8]) -> usize
     ensures { result ≡ length (components s.now) }
 {
-    let mut n = lead_len(s);
-    let mut at = 0;
-    loop {
-        let Part::Span(_, e) = next_component(s, at) else {
-            return n;
-        };
-        n += 1;
-        at = e + 1;
-    }
+    lead_len(s) + Components::new(s).count()
 }

@@ -2,18 +2,16 @@
 use mathlib.Core.Path.{◌≡◌, refl, sym}
 use mathlib.Core.List.{List, [], ◌∷◌}
 use mathlib.Core.Bool.{Bool, true, false, cond}
-use Prim.Native.Nat.{ℕ, suc, ◌+◌, ◌-◌, ◌≤◌, ◌<◌}
+use Prim.Native.Nat.{ℕ, suc, ◌+◌, ◌-◌, ◌≤◌, ◌<◌, max}
 use native.Mathlib.Omega.{arith}
-use native.Mathlib.Nat.{add-zero}
 use native.Mathlib.Numerals.{add-one}
-use lib.ListN.{length, take, drop, get_or, length-drop, drop_of_length-le}
+use lib.ListN.{length, take, drop, get_or, length-drop}
 use lib.Seq.{length-take-le}
 use lib.Dec.{eqb}
 use borrow.Author.Tests.{eq-eqb, ne_eqb}
 use Rattle.text.specs.Bytes.{Text, slash, dot}
 use Rattle.text.specs.Text.{find_from, find}
-use Rattle.text.specs.declared.Found.{Found}
-use Rattle.text.specs.declared.Found.TheVariants.{At, Nothing}
+use Rattle.std.specs.Prelude.{Option, Some, None}
 use Rattle.components.specs.Components.{on_first, split, piece_of}
 use Rattle.components.specs.Places.{piece_end}
 use Rattle.components.specs.declared.Piece.TheVariants.{Skip, Up, Name}
@@ -64,20 +62,23 @@ piece_up (a ∷ []) h e f = never (omega arith)
 piece_up (a ∷ b ∷ []) h e f = rw (eq-eqb a dot e, eq-eqb b dot f)
 piece_up (a ∷ b ∷ c ∷ p) h e f = never (omega arith)
 
+-- whichever it is, from its length and its bytes
+pub ruleset kinds = (piece_none, piece_dot, piece_up, piece_long, piece_name, piece_dot_name)
+
 -- the first piece, and those after its slash
 
-at_nothing : (j : ℕ) → At j ≡ Nothing → ⊥
+at_nothing : (j : ℕ) → Some j ≡ None → ⊥
 at_nothing j e = let z : ◌≡◌ {A = ℕ} 0 1 = cc in omega arith
 
-at_at : (j i : ℕ) → At j ≡ At i → j ≡ i
+at_at : (j i : ℕ) → Some j ≡ Some i → j ≡ i
 at_at j i e = cc
 
-split_all : (s : Text) (j : ℕ) → find_from slash j s ≡ Nothing → split s ≡ s ∷ []
+split_all : (s : Text) (j : ℕ) → find_from slash j s ≡ None → split s ≡ s ∷ []
 unfolding split find_from on_first
 split_all [] j e = refl
 split_all (x ∷ s) j e = by_test (eqb x slash) (λ t. absurd (at_nothing j (rw t at e))) (λ f. rw (f, split_all s (suc j) (rw f at e)))
 
-split_first : (s : Text) (j i : ℕ) → find_from slash j s ≡ At i → (j ≤ i) × ((i < j + length s) × (split s ≡ take (i - j) s ∷ split (drop (suc (i - j)) s)))
+split_first : (s : Text) (j i : ℕ) → find_from slash j s ≡ Some i → (j ≤ i) × ((i < j + length s) × (split s ≡ take (i - j) s ∷ split (drop (suc (i - j)) s)))
 unfolding split find_from on_first
 split_first [] j i e = absurd (at_nothing i (sym e))
 split_first (x ∷ s) j i e =
@@ -91,10 +92,10 @@ split_first (x ∷ s) j i e =
     let z : i - j ≡ suc (i - suc j) = omega arith in
     (omega arith, (omega arith, rw (f, z, ih.1.1))))
 
-pub pieces_one : (s : Text) → Nothing ≡ find slash s → split s ≡ s ∷ []
+pub pieces_one : (s : Text) → None ≡ find slash s → split s ≡ s ∷ []
 pieces_one s e = split_all s 0 (sym e)
 
-module _ (s : Text) (i : ℕ) (e : At i ≡ find slash s) where
+module _ (s : Text) (i : ℕ) (e : Some i ≡ find slash s) where
   pub slash_within : i < length s
   slash_within = let h = split_first s 0 i (sym e) in omega arith
 
@@ -105,17 +106,13 @@ module _ (s : Text) (i : ℕ) (e : At i ≡ find slash s) where
 
 -- where a piece ends: t is what the code looks through, r what it found
 
-pub end_past : (s : Text) (at : ℕ) → length s ≤ at → at ≡ piece_end at s
-unfolding piece_end split
-end_past s at h = rw (drop_of_length-le s h) (sym (add-zero at))
-
-module _ (s : Text) (at : ℕ) (t : Text) (d : t ≡ drop at s) (r : Found) (f : r ≡ find slash t) where
-  pub end_last : at < length s → r ≡ Nothing → length s ≡ piece_end at s
+module _ (s : Text) (at : ℕ) (t : Text) (d : t ≡ drop at s) (r : Option ℕ) (f : r ≡ find slash t) where
+  pub end_last : r ≡ None → max (length s) at ≡ piece_end at s
   unfolding piece_end
-  end_last h n = rw (pieces_one (drop at s) (rw (n, d) at f), length-drop at s) (omega arith)
+  end_last n = rw (pieces_one (drop at s) (rw (n, d) at f), length-drop at s) (omega arith)
 
-  module _ (i : ℕ) (e : r ≡ At i) where
-    found : At i ≡ find slash (drop at s)
+  module _ (i : ℕ) (e : r ≡ Some i) where
+    found : Some i ≡ find slash (drop at s)
     found = rw (e, d) at f
 
     pub end_slash : at + i ≡ piece_end at s

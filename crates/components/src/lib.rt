@@ -6,10 +6,10 @@ ghost use Rattle.text.specs.Bytes.{slash};
 ghost use Rattle.components.specs.Components.{piece_of, is_skip, is_name, starts, leads_dot, lead_of};
 ghost use Rattle.components.specs.Places.{piece_end};
 
-use text::{DOT, Found, SLASH, find_byte, from};
+use text::{DOT, SLASH, find_byte, from};
 
 // What a piece between slashes is.
-#[derive(Clone, Copy)]
+#[derive(Clone, Copy, PartialEq, Eq)]
 pub enum Piece {
     // Nothing, or `.`
     Skip,
@@ -18,47 +18,30 @@ pub enum Piece {
     Name,
 }
 
+#[tactic(auto, using(crate::proofs::Pieces::kinds))]
 pub fn piece_kind(p: &[u8]) -> Piece
     ensures { result ≡ piece_of p.now }
 {
-    if p.len() == 0 {
-        return Piece::Skip;
+    match p {
+        [] | [DOT] => Piece::Skip,
+        [DOT, DOT] => Piece::Up,
+        _ => Piece::Name,
     }
-    if 2 < p.len() {
-        return Piece::Name;
-    }
-    if p[0] != DOT {
-        return Piece::Name;
-    }
-    if p.len() == 1 {
-        return Piece::Skip;
-    }
-    if p[1] != DOT {
-        return Piece::Name;
-    }
-    Piece::Up
 }
 
 // Whether a piece is no component: nothing, or `.`
 pub fn is_skipped(p: &[u8]) -> bool
     ensures { result ≡ is_skip (piece_of p.now) }
 {
-    match piece_kind(p) {
-        Piece::Skip => true,
-        Piece::Up => false,
-        Piece::Name => false,
-    }
+    piece_kind(p) == Piece::Skip
 }
 
 // Where the piece that begins at `at` ends.
 pub fn piece_end(s: &[u8], at: usize) -> usize
     ensures { result ≡ piece_end at s.now }
 {
-    if s.len() <= at {
-        return at;
-    }
-    let Found::At(i) = find_byte(from(s, at), SLASH) else {
-        return s.len();
+    let Some(i) = find_byte(from(s, at), SLASH) else {
+        return s.len().max(at);
     };
     at + i
 }
@@ -67,48 +50,28 @@ pub fn piece_end(s: &[u8], at: usize) -> usize
 pub fn is_name(p: &[u8]) -> bool
     ensures { result ≡ is_name (piece_of p.now) }
 {
-    match piece_kind(p) {
-        Piece::Skip => false,
-        Piece::Up => false,
-        Piece::Name => true,
-    }
+    piece_kind(p) == Piece::Name
 }
 
 // Whether s is a path from the root.
+#[tactic(auto, using(crate::proofs::Components::firsts))]
 pub fn is_absolute(s: &[u8]) -> bool
     ensures { result ≡ starts slash s.now }
 {
-    if s.len() == 0 {
-        return false;
-    }
-    s[0] == SLASH
+    matches!(s, [SLASH, ..])
 }
 
 // Whether s is `.` or begins `./`
+#[tactic(auto, using(crate::proofs::Components::leads))]
 pub fn leads_dot(s: &[u8]) -> bool
     ensures { result ≡ leads_dot s.now }
 {
-    if s.len() == 0 {
-        return false;
-    }
-    if s[0] != DOT {
-        return false;
-    }
-    if s.len() == 1 {
-        return true;
-    }
-    s[1] == SLASH
+    matches!(s, [DOT] | [DOT, SLASH, ..])
 }
 
 // How long the `/` or the `.` is that s begins with: 0 or 1.
 pub fn lead_len(s: &[u8]) -> usize
     ensures { result ≡ length (lead_of s.now) }
 {
-    if is_absolute(s) {
-        return 1;
-    }
-    if leads_dot(s) {
-        return 1;
-    }
-    0
+    usize::from(is_absolute(s) || leads_dot(s))
 }

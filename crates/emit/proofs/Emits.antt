@@ -1,12 +1,14 @@
 -- Laws of what is written to lent output. Assumes nothing.
 use mathlib.Core.Path.{◌≡◌, refl, sym, ap, subst, ◌∙◌}
-use mathlib.Core.List.{[], ◌∷◌, ◌++◌}
-use Prim.Native.Nat.{ℕ, suc, ◌+◌, ◌-◌, ◌<◌, ◌≤◌}
+use mathlib.Core.List.{[], ◌∷◌, ◌++◌, append_assoc}
+use Prim.Native.Nat.{ℕ, suc, ◌+◌, ◌-◌, ◌<◌, ◌≤◌, min}
 use native.Mathlib.Omega.{arith}
 use native.Mathlib.Nat.{add-zero, add-suc, suc-add}
 use native.Mathlib.Numerals.{add-one}
 use lib.ListN.{length, get_or, set, drop, take, length-append, drop_of_length-le}
-use lib.Seq.{sets, sets-eq, length-sets, set_out, drop-cons, take_at, length-take-le}
+use lib.Seq.{sets, sets-eq, length-sets, set_out, drop-cons, drop-drop, take_at, length-take-le}
+use lib.ListN.{take-append-drop}
+use borrow.Rule.Slice.PartMut.{put_mid}
 use lib.Dec.{leb}
 use borrow.Author.Tests.{leb-true, leb-false}
 use Rattle.text.specs.Bytes.{Text}
@@ -102,26 +104,28 @@ module _ (all o₀ : Text) (at : ℕ) where
     unfolding written
     owes_end e = record { text = sym (p.text ∙ ap (written o k) e); next = omega (arith, p.next, ap length e) }
 
--- The bytes of a text, one after the other, as far as the output reaches
+-- The front of a text that the output has room for, copied there, is all that is written
 
-module _ (s o₀ : Text) (at : ℕ) where
-  pub bytes_all : Owes s o₀ at (drop 0 s) o₀ (at + 0)
-  bytes_all = rw (add-zero at) (owes_all s o₀ at)
+module _ (o s : Text) (at n : ℕ) (here : at < length o) (reach : n ≡ min (length s) (length o - at)) where
+  front_in : length (take n s) ≡ n
+  front_in = length-take-le n s (omega (arith, reach))
 
-  pub bytes_step : (o : Text) (i : ℕ) → i < length s → Owes s o₀ at (drop i s) o (at + i) → Owes s o₀ at (drop (i + 1) s) (set o (at + i) (get_or s i 0)) (at + (i + 1))
-  bytes_step o i h p =
-      let k : at + i + 1 ≡ at + (i + 1) = omega arith in
-      subst (Owes s o₀ at (drop (i + 1) s) (set o (at + i) (get_or s i 0))) k
-      (rw add-one (owes_step s o₀ at (drop i s) o (at + i) p (get_or s i 0 ∷ []) (drop (suc i) s) _ _ (drop-cons s i 0 h) (put_in o (at + i) (get_or s i 0))))
+  rest_out : (w : Text) → length w ≡ length o → written w (at + n) (drop n s) ≡ w
+  unfolding written
+  rest_out w l =
+      by_test (leb (length s) n)
+      (λ t. ap (sets w (at + n)) (drop_of_length-le s (leb-true (length s) n t)))
+      (λ f. let z = leb-false (length s) n f in written_out (drop n s) w (at + n) (omega (arith, reach, z, l)))
 
-  module _ (o : Text) (i : ℕ) (p : Owes s o₀ at (drop i s) o (at + i)) (l : length o ≡ length o₀) where
-    -- nothing is left, or nothing of it reaches
-    pub bytes_end : i ≡ length s - (length s - (length o₀ - at)) → at < length o₀ → Emits s o₀ at o (at + length s)
-    unfolding written
-    bytes_end e h =
-        by_test (leb (length s) i)
-        (λ t. let z : drop i s ≡ [] = drop_of_length-le s (leb-true (length s) i t) in record { text = sym (p.text ∙ ap (written o (at + i)) z); next = refl })
-        (λ f. let z = leb-false (length s) i f in record { text = sym (p.text ∙ written_out (drop i s) o (at + i) (omega (arith, e, h, l, z))); next = refl })
+  written_front : written o at s ≡ written o at (take n s)
+  written_front =
+      ap (written o at) (sym (take-append-drop n s)) ∙ (sym (written_append (take n s) o at (drop n s))
+      ∙ (ap (λ (k : ℕ). written (written o at (take n s)) (at + k) (drop n s)) front_in ∙ rest_out (written o at (take n s)) (written_length o at (take n s))))
+
+  pub copied_front : (k : ℕ) (ys : Text) → k ≡ n → ys ≡ take n s → put_mid at k o ys ≡ written o at s
+  copied_front k ys e f =
+      rw (e, f, drop-drop n at o)
+      (sym (written_front ∙ (written_in o at (take n s) (omega (arith, front_in, reach)) ∙ (append_assoc (take at o) (take n s) (drop (at + length (take n s)) o) ∙ ap (λ (j : ℕ). take at o ++ (take n s ++ drop (at + j) o)) front_in))))
 
 -- What a buffer holds after a write that fits
 

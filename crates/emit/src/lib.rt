@@ -1,44 +1,71 @@
-// The emitter of lent output: what fits is written, all of it is counted.
+// Lent output: what fits is written, all of it is counted.
 #![tactic(auto)]
 
-ghost use Rattle.std.specs.Prelude.{◌≡◌, [], ◌∷◌, ◌-◌};
-ghost use Rattle.emit.specs.Emit.{Room, Emits};
+ghost use Rattle.std.specs.Prelude.{◌≡◌, [], ◌∷◌, ◌≤◌, length, take};
+ghost use Rattle.emit.specs.Emit.{Room};
+ghost use Rattle.emit.specs.Output.{Puts, Cut};
 
-// Writes b at `at` where the output reaches so far, and counts it.
-pub fn put(out: &mut [u8], at: usize, b: u8) -> usize
-    requires { Room at (b ∷ []) }
-    ensures { Emits (b ∷ []) out.old at out.new result }
-{
-    if at < out.len() {
-        out[at] = b;
-        return at + 1;
-    }
-    at + 1
+// The bytes that are lent, and how many were written so far, be it past their end.
+#[derive(Drop)]
+pub struct Output<'a> {
+    pub bytes: &'a mut [u8],
+    pub at: usize,
 }
 
-// How many of n bytes there is room for.
-fn reach(room: usize, n: usize) -> usize
-    ensures { result ≡ n - (n - room) }
-{
-    if room < n {
-        return room;
+impl<'a> Output<'a> {
+    // Output of which nothing is written.
+    pub fn new(bytes: &'a mut [u8]) -> Output<'a>
+        ensures same { result.bytes.ghost_name ≡ bytes.entry.ghost_name }
+        ensures bytes { result.bytes.now ≡ bytes.old }
+        ensures at { result.at ≡ 0 }
+    {
+        Output { bytes, at: 0 }
     }
-    n
-}
 
-// Writes s from `at` on as far as the output reaches, and counts all of it.
-pub fn put_text(out: &mut [u8], at: usize, s: &[u8]) -> usize
-    requires { Room at s.now }
-    ensures { Emits s.now out.old at out.new result }
-{
-    if out.len() <= at {
-        return at + s.len();
+    // Writes b where the output reaches so far, and counts it.
+    pub fn put(&mut self, b: u8)
+        requires { Room self.old.at (b ∷ []) }
+        ensures { Puts (b ∷ []) self.old self.new }
+    {
+        if self.at < self.bytes.len() {
+            self.bytes[self.at] = b;
+        }
+        self.at += 1;
     }
-    let n = reach(out.len() - at, s.len());
-    let mut i = 0;
-    while i < n {
-        out[at + i] = s[i];
-        i += 1;
+
+    // Writes s as far as the output reaches, and counts all of it.
+    pub fn put_text(&mut self, s: &[u8])
+        requires { Room self.old.at s.now }
+        ensures { Puts s.now self.old self.new }
+    {
+        if self.at < self.bytes.len() {
+            let n = s.len().min(self.bytes.len() - self.at);
+            self.bytes[self.at..self.at + n].copy_from_slice(&s[..n]);
+        }
+        self.at += s.len();
     }
-    at + s.len()
+
+    // Takes back what was written behind the first n bytes.
+    pub fn truncate(&mut self, n: usize)
+        ensures { Cut n self.old self.new }
+    {
+        self.at = n;
+    }
+
+    // What was written, where all of it fits.
+    pub fn text(&self) -> &[u8]
+        requires { self.now.at ≤ length self.now.bytes.now }
+        ensures { result.now ≡ take self.now.at self.now.bytes.now }
+    {
+        &self.bytes[..self.at]
+    }
+
+    // The same, of an output that is done with.
+    pub fn into_text(self) -> &'a [u8]
+        requires { self.at ≤ length self.bytes.now }
+        ensures { result.now ≡ take self.entry.at self.entry.bytes.now }
+    {
+        let Output { bytes, at } = self;
+        &bytes[..at]
+    }
 }

@@ -7,18 +7,17 @@ use native.Mathlib.Omega.{arith}
 use native.Mathlib.Numerals.{add-one}
 use native.Mathlib.Nat.{add-zero, add-suc, suc-add}
 use lib.ListN.{length, take, drop, get_or, length-append, length-take, length-drop, drop_of_length-le}
-use lib.Seq.{length-take-le, take_all, split_at, take-append_seam, take-append-add}
+use lib.Seq.{take_all, split_at, take-append_seam, take-append-add, drop-cons, get_or-drop}
 use lib.Dec.{eqb}
-use borrow.Author.Tests.{eqb-true, eqb-false}
-use Rattle.text.specs.Bytes.{Text, slash}
-use Rattle.text.specs.Text.{find_last_from, find_last, between, each_of}
-use Rattle.text.specs.declared.Found.{Found}
-use Rattle.text.specs.declared.Found.TheVariants.{At, Nothing}
+use borrow.Author.Tests.{eqb-true}
+use Rattle.text.specs.Bytes.{Text, slash, dot}
+use Rattle.text.specs.Text.{find_last_from, find_last, each_of}
+use Rattle.std.specs.Prelude.{Option, Some, None}
 use Rattle.components.specs.Components.{on_first, split, piece_of, is_skip}
 use Rattle.ends.specs.Ends.{joined, ending, trim_end, all_but_last, last_of, last_piece}
 use Rattle.text.proofs.Picks.{by_test, never, both_left, both_right}
-use Rattle.text.proofs.Parts.{between_less}
 use Rattle.components.proofs.Pieces.{by_split}
+use Rattle.components.proofs.Components.{kept}
 
 -- The last place of a byte: after it the byte does not stand
 
@@ -26,34 +25,34 @@ unfoldable pub lacks : ℕ → Text → Bool
 lacks b [] = true
 lacks b (x ∷ s) = cond (eqb x b) false (lacks b s)
 
-data LastIs (b : ℕ) (s : Text) (f : Found) (j : ℕ) (r : Found) : Type 0 where
+data LastIs (b : ℕ) (s : Text) (f : Option ℕ) (j : ℕ) (r : Option ℕ) : Type 0 where
   keeps : r ≡ f → lacks b s ≡ true → LastIs b s f j r
-  finds : (i : ℕ) → r ≡ At (j + i) → i < length s → get_or s i 0 ≡ b → lacks b (drop (suc i) s) ≡ true → LastIs b s f j r
+  finds : (i : ℕ) → r ≡ Some (j + i) → i < length s → get_or s i 0 ≡ b → lacks b (drop (suc i) s) ≡ true → LastIs b s f j r
 
-last_step : (b x : ℕ) (s : Text) (f : Found) (j : ℕ) (r : Found) (t : Bool) → eqb x b ≡ t → LastIs b s (cond t (At j) f) (suc j) r → LastIs b (x ∷ s) f j r
+last_step : (b x : ℕ) (s : Text) (f : Option ℕ) (j : ℕ) (r : Option ℕ) (t : Bool) → eqb x b ≡ t → LastIs b s (cond t (Some j) f) (suc j) r → LastIs b (x ∷ s) f j r
 unfolding lacks
 last_step b x s f j r true e (keeps p l) = finds 0 (rw add-zero p) (omega arith) (eqb-true x b e) l
 last_step b x s f j r false e (keeps p l) = keeps p (rw e l)
 last_step b x s f j r t e (finds i p h g l) = finds (suc i) (rw (add-suc, ← suc-add) p) (omega arith) g l
 
-last_is : (b : ℕ) (s : Text) (f : Found) (j : ℕ) → LastIs b s f j (find_last_from b f j s)
+last_is : (b : ℕ) (s : Text) (f : Option ℕ) (j : ℕ) → LastIs b s f j (find_last_from b f j s)
 unfolding find_last_from lacks
 last_is b [] f j = keeps refl refl
-last_is b (x ∷ s) f j = last_step b x s f j _ (eqb x b) refl (last_is b s (cond (eqb x b) (At j) f) (suc j))
+last_is b (x ∷ s) f j = last_step b x s f j _ (eqb x b) refl (last_is b s (cond (eqb x b) (Some j) f) (suc j))
 
 module _ (b : ℕ) (s : Text) where
-  pub last_lacks : Nothing ≡ find_last b s → lacks b s ≡ true
-  last_lacks e = go (last_is b s Nothing 0)
+  pub last_lacks : None ≡ find_last b s → lacks b s ≡ true
+  last_lacks e = go (last_is b s None 0)
     where
-      go : LastIs b s Nothing 0 (find_last b s) → lacks b s ≡ true
+      go : LastIs b s None 0 (find_last b s) → lacks b s ≡ true
       go (keeps p l) = l
       go (finds i p h g l) = let z : ◌≡◌ {A = ℕ} 0 1 = cc in never (omega arith)
 
-  module _ (i : ℕ) (e : At i ≡ find_last b s) where
+  module _ (i : ℕ) (e : Some i ≡ find_last b s) where
     pub last_at : (i < length s) × ((get_or s i 0 ≡ b) × (lacks b (drop (suc i) s) ≡ true))
-    last_at = go (last_is b s Nothing 0)
+    last_at = go (last_is b s None 0)
       where
-        go : LastIs b s Nothing 0 (find_last b s) → (i < length s) × ((get_or s i 0 ≡ b) × (lacks b (drop (suc i) s) ≡ true))
+        go : LastIs b s None 0 (find_last b s) → (i < length s) × ((get_or s i 0 ≡ b) × (lacks b (drop (suc i) s) ≡ true))
         go (keeps p l) = let z : ◌≡◌ {A = ℕ} 0 1 = cc in never (omega arith)
         go (finds k p h g l) = let q : i ≡ 0 + k = cc in let z : i ≡ k = omega arith in rw z (h, (g, l))
 
@@ -114,14 +113,14 @@ unfolding last_of
 last_snoc x [] p = refl
 last_snoc x (q ∷ ps) p = last_snoc q ps p
 
-pub data Cut (s : Text) (f : Found) : Type 0 where
-  whole : f ≡ Nothing → split s ≡ s ∷ [] → last_piece s ≡ s → Cut s f
-  parted : (i : ℕ) → f ≡ At i → i < length s → split s ≡ split (take i s) ++ (drop (suc i) s ∷ []) → last_piece s ≡ drop (suc i) s → Cut s f
+pub data Cut (s : Text) (f : Option ℕ) : Type 0 where
+  whole : f ≡ None → split s ≡ s ∷ [] → last_piece s ≡ s → Cut s f
+  parted : (i : ℕ) → f ≡ Some i → i < length s → split s ≡ split (take i s) ++ (drop (suc i) s ∷ []) → last_piece s ≡ drop (suc i) s → Cut s f
 
-pub cut : (s : Text) (f : Found) → f ≡ find_last slash s → Cut s f
+pub cut : (s : Text) (f : Option ℕ) → f ≡ find_last slash s → Cut s f
 unfolding last_piece last_of
-cut s Nothing e = let p = split_lacks s (last_lacks slash s e) in whole refl p (rw p)
-cut s (At i) e =
+cut s None e = let p = split_lacks s (last_lacks slash s e) in whole refl p (rw p)
+cut s (Some i) e =
     let w : i < length s = last_within slash s i e in
     let a = last_at slash s i e in
     let z : s ≡ take i s ++ slash ∷ drop (suc i) s = split_at s i 0 w ∙ rw a.1.0 in
@@ -130,15 +129,15 @@ cut s (At i) e =
     parted i refl w p (rw p (last_snoc [] (split (take i s)) (drop (suc i) s)))
 
 -- where the last piece begins
-module _ (s : Text) (f : Found) (e : f ≡ find_last slash s) where
-  pub start_none : f ≡ Nothing → 0 ≡ length s - length (last_piece s)
+module _ (s : Text) (f : Option ℕ) (e : f ≡ find_last slash s) where
+  pub start_none : f ≡ None → 0 ≡ length s - length (last_piece s)
   start_none n = go (cut s f e)
     where
       go : Cut s f → 0 ≡ length s - length (last_piece s)
       go (whole _ p l) = rw l (omega arith)
       go (parted i g w p l) = let z : ◌≡◌ {A = ℕ} 0 1 = cc in never (omega arith)
 
-  module _ (i : ℕ) (n : f ≡ At i) where
+  module _ (i : ℕ) (n : f ≡ Some i) where
     pub start_some : i + 1 ≡ length s - length (last_piece s)
     start_some = go (cut s f e)
       where
@@ -157,23 +156,6 @@ module _ (s : Text) (k : ℕ) (h : k ≡ length s - length (last_piece s)) where
       go : Cut s (find_last slash s) → drop k s ≡ last_piece s
       go (whole g p l) = let z : k ≡ 0 = h ∙ rw l (omega arith) in rw (z, l)
       go (parted i g w p l) = let z : k ≡ suc i = h ∙ rw l (omega (arith, length-drop (suc i) s)) in rw (z, l)
-
-  pub start_first : k ≡ 0 → split s ≡ drop k s ∷ []
-  start_first z = go (cut s _ refl)
-    where
-      go : Cut s (find_last slash s) → split s ≡ drop k s ∷ []
-      go (whole g p l) = rw (z, p)
-      go (parted i g w p l) = let y : k ≡ suc i = h ∙ rw l (omega (arith, length-drop (suc i) s)) in never (omega arith)
-
-  pub start_later : 0 < k → split s ≡ split (take (k - 1) s) ++ (drop k s ∷ [])
-  start_later z = go (cut s _ refl)
-    where
-      go : Cut s (find_last slash s) → split s ≡ split (take (k - 1) s) ++ (drop k s ∷ [])
-      go (whole g p l) = let y : k ≡ 0 = h ∙ rw l (omega arith) in never (omega arith)
-      go (parted i g w p l) =
-          let y : k ≡ suc i = h ∙ rw l (omega (arith, length-drop (suc i) s)) in
-          let x : suc i - 1 ≡ i = omega arith in
-          rw (y, x, p)
 
 -- The pieces up to the last component
 
@@ -260,75 +242,88 @@ but_last p [] = refl
 but_last p (q ∷ []) = refl
 but_last p (q ∷ r ∷ ps) = ap (λ (l : List Text). q ∷ l) (but_last p (r ∷ ps))
 
-pub last_one : (s : Text) → Nothing ≡ find_last slash s → split s ≡ s ∷ []
+pub last_one : (s : Text) → None ≡ find_last slash s → split s ≡ s ∷ []
 last_one s e = split_lacks s (last_lacks slash s e)
 
-pub last_more : (s : Text) (i : ℕ) → At i ≡ find_last slash s → split s ≡ split (take i s) ++ (drop (i + 1) s ∷ [])
-last_more s i e = go (cut s (At i) e)
+pub last_more : (s : Text) (i : ℕ) → Some i ≡ find_last slash s → split s ≡ split (take i s) ++ (drop (i + 1) s ∷ [])
+last_more s i e = go (cut s (Some i) e)
   where
-    go : Cut s (At i) → split s ≡ split (take i s) ++ (drop (i + 1) s ∷ [])
+    go : Cut s (Some i) → split s ≡ split (take i s) ++ (drop (i + 1) s ∷ [])
     go (whole g p l) = let z : ◌≡◌ {A = ℕ} 0 1 = cc in never (omega arith)
     go (parted k g w p l) = let z : k ≡ i = cc in rw (← z, add-one k) p
 
--- a scan from the end: k is where the last piece of t begins, u that piece, r whether it is skipped
-module _ (t : Text) (k : ℕ) (h : k ≡ length t - length (last_piece t)) (u : Text) (d : u ≡ drop k t) (r : Bool) (e : r ≡ is_skip (piece_of u)) where
-  pub scan_keep : r ≡ false → joined (trim_end (split t)) ≡ t
-  scan_keep f =
-      let skip : is_skip (piece_of (drop k t)) ≡ false = sym (rw d at e) ∙ f in
-      let same : trim_end (split t) ≡ split t =
-      by_test (eqb k 0)
-      (λ z. rw (start_first t k h (eqb-true k 0 z)) (trim_keep [] (drop k t) skip))
-      (λ z. let y = eqb-false k 0 z in rw (start_later t k h (omega arith)) (trim_keep (split (take (k - 1) t)) (drop k t) skip)) in
-      ap joined same ∙ joined_split t
+-- What is dropped at the end of a text t: a slash, or a slash and a dot
 
-  module _ (f : r ≡ true) where
-    skip : is_skip (piece_of (drop k t)) ≡ true
-    skip = sym (rw d at e) ∙ f
+trim_slash : (x y : Text) → split y ≡ y ∷ [] → is_skip (piece_of y) ≡ true → trim_end (split (x ++ slash ∷ y)) ≡ trim_end (split x)
+trim_slash x y e h = rw (split_slash x y, e) (trim_skip (split x) y h)
 
-    pub scan_none : k ≡ 0 → trim_end (split t) ≡ []
-    unfolding trim_end
-    scan_none z = rw (start_first t k h z) (trim_skip [] (drop k t) skip)
+module _ (t : Text) where
+  pub less_slash : 0 < length t → get_or t (length t - 1) 0 ≡ slash → trim_end (split (take (length t - 1) t)) ≡ trim_end (split t)
+  unfolding split piece_of
+  less_slash h e =
+      let n = length t - 1 in
+      let d : drop (suc n) t ≡ [] = drop_of_length-le t {i = suc n} (omega arith) in
+      let z : t ≡ take n t ++ slash ∷ [] = split_at t n 0 (omega arith) ∙ rw (e, d) in
+      sym (ap (λ (x : Text). trim_end (split x)) z ∙ trim_slash (take n t) [] refl refl)
 
-    pub scan_less : 0 < k → trim_end (split (take (k - 1) t)) ≡ trim_end (split t)
-    scan_less z = sym (ap trim_end (start_later t k h z) ∙ trim_skip (split (take (k - 1) t)) (drop k t) skip)
+  pub less_dot : 1 < length t → get_or t (length t - 1) 0 ≡ dot → get_or t (length t - 2) 0 ≡ slash → trim_end (split (take (length t - 2) t)) ≡ trim_end (split t)
+  unfolding split piece_of on_first
+  less_dot h e f =
+      let n = length t - 2 in
+      let y : suc n ≡ length t - 1 = omega arith in
+      let d : drop (suc (suc n)) t ≡ [] = drop_of_length-le t {i = suc (suc n)} (omega arith) in
+      let g : get_or t (suc n) 0 ≡ dot = rw y e in
+      let l : drop (suc n) t ≡ dot ∷ [] = drop-cons t (suc n) 0 (omega arith) ∙ rw (g, d) in
+      let z : t ≡ take n t ++ slash ∷ dot ∷ [] = split_at t n 0 (omega arith) ∙ rw (f, l) in
+      sym (ap (λ (x : Text). trim_end (split x)) z ∙ trim_slash (take n t) (dot ∷ []) refl refl)
 
--- the same of the part of s from a up to e, where what follows e has no component
-pub record Trims (s : Text) (a e : ℕ) : Type 0 where
-  pub low : a ≤ e
-  pub high : e ≤ length s
-  pub same : trim_end (split (between a e s)) ≡ trim_end (split (drop a s))
+  pub only_dot : length t ≡ 1 → get_or t 0 0 ≡ dot → joined (trim_end (split t)) ≡ []
+  unfolding split piece_of on_first trim_end ending joined
+  only_dot l e = one t l e
+    where
+      one : (t : Text) → length t ≡ 1 → get_or t 0 0 ≡ dot → joined (trim_end (split t)) ≡ []
+      one [] l e = never (omega arith)
+      one (x ∷ []) l e = rw e
+      one (x ∷ y ∷ t) l e = never (omega arith)
 
-module _ (s : Text) (a : ℕ) where
-  pub ends_past : length s ≤ a → a ≡ a + length (joined (trim_end (split (drop a s))))
-  unfolding split trim_end ending joined piece_of
-  ends_past h = rw (drop_of_length-le s h) (sym (add-zero a))
+  -- all of it is kept, if its last piece is neither empty nor `.`
+  keeps_all : is_skip (piece_of (last_piece t)) ≡ false → joined (trim_end (split t)) ≡ t
+  keeps_all f = ap joined (go (cut t _ refl)) ∙ joined_split t
+    where
+      go : Cut t (find_last slash t) → trim_end (split t) ≡ split t
+      go (whole g p l) = rw (p, ← l) (trim_keep [] (last_piece t) f)
+      go (parted i g w p l) = rw (p, ← l) (trim_keep (split (take i t)) (last_piece t) f)
 
-  pub ends_all : a < length s → Trims s a (length s)
-  ends_all h = record { low = omega arith; high = omega arith; same = ap (λ (x : Text). trim_end (split x)) (take_all (length s - a) (drop a s) (omega (arith, length-drop a s))) }
+  ends_kept : 0 < length t → (get_or t (length t - 1) 0 ≡ slash → ⊥) → (get_or t (length t - 1) 0 ≡ dot → (1 < length t) × (get_or t (length t - 2) 0 ≡ slash → ⊥)) → joined (trim_end (split t)) ≡ t
+  ends_kept h n m = keeps_all (go (cut t _ refl))
+    where
+      go : Cut t (find_last slash t) → is_skip (piece_of (last_piece t)) ≡ false
+      go (whole g p l) = rw l (kept t (λ z. omega arith) (λ z e. let y : length t - 1 ≡ 0 = omega arith in let k = m (rw y e) in omega (arith, k.0)))
+      go (parted i g w p l) =
+          let at : get_or t i 0 ≡ slash = (last_at slash t i (sym g)).1.0 in
+          let long = length-drop (suc i) t in
+          rw l
+          (kept (drop (suc i) t)
+          (λ z. let y : length t - 1 ≡ i = omega (arith, long) in n (rw y at))
+          (λ z e.
+          let y : length t - 1 ≡ suc i + 0 = omega (arith, long) in
+          let x : length t - 2 ≡ i = omega (arith, long) in
+          let k = m (rw y (sym (get_or-drop (suc i) t 0 0) ∙ e)) in
+          k.1 (rw x at)))
 
-  module _ (e : ℕ) (inv : Trims s a e) (t : Text) (c : t ≡ between a e s) (k : ℕ) (h : k ≡ length t - length (last_piece t)) where
-    long : length t ≡ e - a
-    long = rw c (length-take-le (e - a) (drop a s) (omega (arith, length-drop a s)))
+  pub kept_none : length t ≡ 0 → joined (trim_end (split t)) ≡ t
+  unfolding split piece_of trim_end ending joined
+  kept_none h = none t h
+    where
+      none : (t : Text) → length t ≡ 0 → joined (trim_end (split t)) ≡ t
+      none [] h = refl
+      none (x ∷ t) h = never (omega arith)
 
-    pub ends_within : a + k ≤ e
-    ends_within = omega (arith, long)
+  pub kept_plain : 0 < length t → (get_or t (length t - 1) 0 ≡ slash → ⊥) → (get_or t (length t - 1) 0 ≡ dot → ⊥) → joined (trim_end (split t)) ≡ t
+  kept_plain h n m = ends_kept h n (λ e. absurd (m e))
 
-    module _ (u : Text) (d : u ≡ drop k t) (r : Bool) (q : r ≡ is_skip (piece_of u)) where
-      pub ends_keep : r ≡ false → e ≡ a + length (joined (trim_end (split (drop a s))))
-      ends_keep f =
-          let z : joined (trim_end (split (drop a s))) ≡ t = ap joined (sym inv.same ∙ ap (λ (x : Text). trim_end (split x)) (sym c)) ∙ scan_keep t k h u d r q f in
-          rw z (omega (arith, long))
+  pub kept_dots : 1 < length t → get_or t (length t - 1) 0 ≡ dot → (get_or t (length t - 2) 0 ≡ slash → ⊥) → joined (trim_end (split t)) ≡ t
+  kept_dots h e n = ends_kept (omega arith) (λ f. let z : slash ≡ dot = sym f ∙ e in omega arith) (λ f. (h, n))
 
-      module _ (f : r ≡ true) where
-        pub ends_none : k ≡ 0 → a ≡ a + length (joined (trim_end (split (drop a s))))
-        unfolding joined
-        ends_none z = rw (← inv.same, ← c, scan_none t k h u d r q f z) (sym (add-zero a))
-
-        pub ends_less : (k ≡ 0 → ⊥) → Trims s a (a + k - 1)
-        ends_less n =
-            let y : a + (k - 1) ≡ a + k - 1 = omega arith in
-            record {
-              low = omega arith;
-              high = omega (arith, ends_within);
-              same = rw (← y, ← between_less s a e (k - 1) (omega (arith, long)), ← c) (scan_less t k h u d r q f (omega arith) ∙ rw c inv.same);
-            }
+-- what is left of it, from its length and its last bytes
+pub ruleset tails = (less_slash, less_dot, only_dot, kept_none, kept_plain, kept_dots)

@@ -1,23 +1,21 @@
 -- Laws of file names and extensions. Assumes nothing.
 use mathlib.Core.Path.{◌≡◌, refl, sym, ap, ◌∙◌}
-use mathlib.Core.List.{List, [], ◌∷◌}
-use mathlib.Core.Bool.{Bool, true, false}
-use mathlib.Core.Option.{some, none}
-use Prim.Native.Nat.{ℕ, zero, suc, ◌+◌, ◌-◌, ◌<◌}
 use native.Mathlib.Omega.{arith}
+use mathlib.Core.List.{List, [], ◌∷◌}
+use mathlib.Core.Bool.{Bool, true, false, cond}
+use Rattle.std.specs.Prelude.{Option, Some, None, option_copied}
+use Rattle.std.specs.Bool.{then_some}
+use denote.Ref.{Bor}
+use Prim.Native.Nat.{ℕ, zero, suc, ◌<◌}
 use native.Mathlib.Numerals.{add-one}
-use lib.ListN.{length, take, drop, length-take, length-drop}
+use lib.ListN.{length, take, drop}
+use lib.Seq.{length-take-le, drop-drop}
 use Rattle.text.specs.Bytes.{Text, slash, dot}
-use Rattle.text.specs.Text.{each_of, find_last, between, part_of}
-use Rattle.text.specs.declared.Found.{Found}
-use Rattle.text.specs.declared.Found.TheVariants.{At, Nothing}
-use Rattle.text.specs.declared.Part.{Part}
-use Rattle.text.specs.declared.Part.TheVariants.{Span, Missing}
+use Rattle.text.specs.Text.{each_of, find_last}
 use Rattle.components.specs.Components.{split, piece_of, is_name, is_skip, names}
 use Rattle.ends.specs.Ends.{joined, ending, trim_end, last_of, last_piece, if_name, file_name, after_dot, extension_of, extension}
 use Rattle.text.proofs.Picks.{by_test}
-use Rattle.text.proofs.Parts.{between_later, drop_take}
-use Rattle.ends.proofs.Ends.{last_within, lacks, split_bare, split_joined, trim_each, trimmed_front, start_drop}
+use Rattle.ends.proofs.Ends.{last_within, lacks, split_bare, split_joined, trim_each}
 
 -- The file name: the last of the pieces up to the last component
 
@@ -38,55 +36,49 @@ last_of_trimmed s = go (trim_end (split s)) (trim_each (lacks slash) (split s) (
     go [] h = refl
     go (q ∷ l) h = rw (split_joined q l h)
 
--- e is where the last component ends, a where it begins, u its text, r whether it is a name
-module _ (s : Text) (e : ℕ) (h : e ≡ 0 + length (joined (trim_end (split s)))) (t : Text) (c : t ≡ take e s)
-    (a : ℕ) (b : a ≡ length t - length (last_piece t)) (u : Text) (d : u ≡ between a e s) (r : Bool) (k : r ≡ is_name (piece_of u))
+-- p is the last piece of what the code keeps of s, r whether it is a name
+pub named : (s : Text) (p : Bor Text) → p.now ≡ last_piece (joined (trim_end (split s))) → (r : Bool) → r ≡ is_name (piece_of p.now) → option_copied (then_some r p) ≡ file_name s
+unfolding file_name if_name
+named s p d r k =
+    let e : p.now ≡ last_of [] (names (split s)) = d ∙ last_of_trimmed s ∙ sym (last_names [] (split s)) in
+    rw (← e, ← k) (go r)
   where
-    last_component : u ≡ last_of [] (names (split s))
-    last_component =
-        let z : e ≡ length (joined (trim_end (split s))) = omega arith in
-        let j : t ≡ joined (trim_end (split s)) = c ∙ rw z (trimmed_front s) in
-        d ∙ sym (drop_take a e s) ∙ ap (drop a) (sym c) ∙ start_drop t a b ∙ ap last_piece j ∙ last_of_trimmed s ∙ sym (last_names [] (split s))
+    go : (r : Bool) → option_copied (then_some r p) ≡ cond r (Some p.now) None
+    go true = refl
+    go false = refl
 
-    pub file_none : r ≡ false → none ≡ file_name s
-    unfolding file_name if_name
-    file_none f = rw (← last_component, ← k, f)
-
-    pub file_some : r ≡ true → some (between a e s) ≡ file_name s
-    unfolding file_name if_name
-    file_some f = rw (← last_component, ← k, f, d)
-
--- The extension: q is what the code knows of the file name
-module _ (s : Text) (q : Part) (h : part_of s q ≡ file_name s) where
-  pub extension_missing : q ≡ Missing → none ≡ extension s
+-- The extension: q is the file name
+module _ (s : Text) (q : Option Text) (h : q ≡ file_name s) where
+  pub extension_missing : q ≡ None → None ≡ extension s
   unfolding extension extension_of
   extension_missing m = rw (← h, m)
 
-  module _ (a e : ℕ) (m : q ≡ Span a e) (t : Text) (c : t ≡ between a e s) (f : Found) (g : f ≡ find_last dot t) where
+  module _ (t : Text) (m : q ≡ Some t) (f : Option ℕ) (g : f ≡ find_last dot t) where
     extension_is : extension s ≡ after_dot f t
     unfolding extension extension_of
-    extension_is = rw (← h, m, g, c)
+    extension_is = rw (← h, m, g)
 
-    pub extension_none : f ≡ Nothing → none ≡ extension s
+    pub extension_none : f ≡ None → None ≡ extension s
     unfolding after_dot
     extension_none n = rw (extension_is, n)
 
-    module _ (i : ℕ) (n : f ≡ At i) where
-      pub extension_hidden : i ≡ 0 → none ≡ extension s
-      unfolding after_dot
-      extension_hidden z = rw (extension_is, n, z)
+    -- i is where the last dot stands, p what stands before it
+    module _ (i : ℕ) (n : f ≡ Some i) where
+      pub extension_within : i < length t
+      extension_within = last_within dot t i (sym n ∙ g)
 
-      pub extension_some : (i ≡ 0 → ⊥) → some (between (a + i + 1) e s) ≡ extension s
-      unfolding after_dot
-      extension_some z =
-          let y : a + (i + 1) ≡ a + i + 1 = omega arith in
-          rw (extension_is, n, ← y, ← between_later s a e (i + 1), ← c, add-one) (go i z)
-        where
-          go : (i : ℕ) → (i ≡ 0 → ⊥) → some (drop (suc i) t) ≡ after_dot (At i) t
-          go zero z = absurd (z refl)
-          go (suc i) z = refl
+      module _ (p : Text) (c : p ≡ take i t) where
+        stem_is : length p ≡ i
+        stem_is = ap length c ∙ length-take-le i t (omega (arith, extension_within))
 
-      pub extension_within : a + i < length s
-      extension_within =
-          let w : i < length t = last_within dot t i (sym n ∙ g) in
-          omega (arith, ap length c, length-take (e - a) (drop a s), length-drop a s)
+        pub extension_hidden : length p ≡ 0 → None ≡ extension s
+        unfolding after_dot
+        extension_hidden e = let z : i ≡ 0 = omega (arith, stem_is) in rw (extension_is, n, z)
+
+        pub extension_some : (length p ≡ 0 → ⊥) → (u r : Text) → u ≡ drop i t → r ≡ drop 1 u → Some r ≡ extension s
+        unfolding after_dot
+        extension_some e u r x y = rw (extension_is, n, y, x, drop-drop 1 i t, add-one) (go i (λ z. e (stem_is ∙ z)))
+          where
+            go : (i : ℕ) → (i ≡ 0 → ⊥) → Some (drop (suc i) t) ≡ after_dot (Some i) t
+            go zero z = absurd (z refl)
+            go (suc i) z = refl

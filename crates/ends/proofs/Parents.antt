@@ -5,23 +5,19 @@ use mathlib.Core.Bool.{Bool, true, false}
 use Prim.Native.Nat.{ℕ, suc, ◌+◌, ◌-◌, ◌≤◌, ◌<◌}
 use native.Mathlib.Omega.{arith}
 use lib.ListN.{length, take, drop, length-append, length-take, length-drop}
-use lib.Seq.{take-add, take-take, take-length}
+use lib.Seq.{take-add, take-take, take-length, length-take-le}
 use Rattle.text.specs.Bytes.{Text, slash}
-use Rattle.text.specs.Text.{find_last, between}
-use Rattle.text.specs.declared.Found.{Found}
-use Rattle.text.specs.declared.Found.TheVariants.{At, Nothing}
+use Rattle.text.specs.Text.{find_last}
+use Rattle.std.specs.Prelude.{Option, Some, None}
 use Rattle.components.specs.Components.{split, leads_dot, lead_of}
 use Rattle.ends.specs.Ends.{joined, trim_end, all_but_last, body, without_last, parent_of}
 use Rattle.emit.specs.Emit.{Holds}
 use Rattle.text.proofs.Picks.{by_test, never}
+use Rattle.text.proofs.Parts.{from_some}
 use Rattle.components.proofs.Components.{lead_front, lead_le}
-use Rattle.text.proofs.Parts.{drop_take}
 use Rattle.ends.proofs.Ends.{ends, ends_le, trimmed_front, ends_split, trim_none, trim_le, but_last, last_one, last_within, last_more}
 
 -- the path without its last component
-
-front_after : (a i : ℕ) (s : Text) → drop a (take (a + i) s) ≡ take i (drop a s)
-front_after a i s = let z : a + i - a ≡ i = omega arith in rw z at (drop_take a (a + i) s)
 
 without_none : (s : Text) → length (without_last s []) ≤ length s
 unfolding without_last
@@ -40,20 +36,23 @@ without_one : (s t : Text) → lead_of s ++ joined (trim_end (all_but_last (t �
 unfolding joined trim_end all_but_last
 without_one s t = append-nil (lead_of s)
 
--- a is the lead's length, e where the last component ends
-module _ (s : Text) (a : ℕ) (m : a ≡ length (lead_of s)) (e : ℕ) (n : e ≡ a + length (ends (drop a s))) where
+-- a is the lead's length, t the text from the lead to the end of the last component, as the code cuts it
+module _ (s : Text) (a : ℕ) (m : a ≡ length (lead_of s)) (t : Text) (cut : t ≡ ends (take (length s - a) (drop a s))) where
+  c : t ≡ ends (drop a s)
+  c = cut ∙ ap ends (from_some s a)
+
   in_body : trim_end (split (drop a s)) ≡ body s
   in_body = ap (λ (k : ℕ). trim_end (split (drop k s))) m
 
-  start_le : a ≤ length s
-  start_le = omega (arith, lead_le s)
+  front : take (length t) (drop a s) ≡ t
+  front = ap (λ (x : Text). take (length x) (drop a s)) c ∙ trimmed_front (drop a s) ∙ sym c
 
-  end_le : e ≤ length s
-  end_le = omega (arith, ends_le (drop a s), length-drop a s, lead_le s)
+  pub body_within : a + length t ≤ length s
+  body_within = omega (arith, ap length front, length-take (length t) (drop a s), length-drop a s, lead_le s)
 
-  module _ (x : e ≡ a) (k : Bool) (d : k ≡ leads_dot s) where
+  module _ (x : length t ≡ 0) (k : Bool) (d : k ≡ leads_dot s) where
     no_body : body s ≡ []
-    no_body = sym in_body ∙ trim_none (split (drop a s)) (omega arith)
+    no_body = sym in_body ∙ trim_none (split (drop a s)) (ap length (sym c) ∙ x)
 
     pub parent_dot : k ≡ true → Holds 0 s (parent_of s)
     unfolding parent_of without_last
@@ -63,47 +62,47 @@ module _ (s : Text) (a : ℕ) (m : a ≡ length (lead_of s)) (e : ℕ) (n : e �
     unfolding parent_of without_last
     parent_self t = rw (no_body, ← d, t) (record { size = refl; bytes = take-length s })
 
-  -- t is the text from the lead to the end of the last component, r where its last slash is
-  module _ (x : e ≡ a → ⊥) (t : Text) (d : t ≡ between a e s) (r : Found) (f : r ≡ find_last slash t) where
+  -- r is where its last slash stands
+  module _ (x : length t ≡ 0 → ⊥) (r : Option ℕ) (f : r ≡ find_last slash t) where
     some_body : 0 < length (ends (drop a s))
-    some_body = omega arith
-
-    upto_end : t ≡ ends (drop a s)
-    upto_end = let z : e - a ≡ length (ends (drop a s)) = omega arith in d ∙ ap (λ (k : ℕ). take k (drop a s)) z ∙ trimmed_front (drop a s)
+    some_body = omega (arith, x, ap length c)
 
     split_end : split t ≡ body s
-    split_end = ap split upto_end ∙ ends_split (drop a s) some_body ∙ in_body
+    split_end = ap split c ∙ ends_split (drop a s) some_body ∙ in_body
 
     parent_some : parent_of s ≡ lead_of s ++ joined (trim_end (all_but_last (split t)))
     unfolding parent_of
     parent_some = rw split_end (without_some s (body s) (rw in_body at some_body))
 
-    pub parent_lead : r ≡ Nothing → Holds a s (parent_of s)
+    pub parent_lead : r ≡ None → Holds a s (parent_of s)
     parent_lead z =
         let w : parent_of s ≡ lead_of s = parent_some ∙ ap (λ (l : List Text). lead_of s ++ joined (trim_end (all_but_last l))) (last_one t (sym z ∙ f)) ∙ without_one s t in
         rw w (record { size = m; bytes = rw m (lead_front s) })
 
-    module _ (i : ℕ) (g : r ≡ At i) where
-      found : At i ≡ find_last slash t
+    module _ (i : ℕ) (g : r ≡ Some i) where
+      found : Some i ≡ find_last slash t
       found = sym g ∙ f
 
-      pub cut_within : a + i < length s
-      cut_within = omega (arith, last_within slash t i found, ap length upto_end, end_le)
+      pub slash_within : i < length t
+      slash_within = last_within slash t i found
 
-      pub parent_more : (u : Text) → u ≡ take (a + i) s → (k : ℕ) → k ≡ a + length (ends (drop a u)) → Holds k s (parent_of s)
-      parent_more u c k o =
-          let y : drop a u ≡ take i (drop a s) = ap (drop a) c ∙ front_after a i s in
-          let v : take i t ≡ take i (drop a s) = ap (take i) d ∙ take-take i (e - a) (drop a s) (omega (arith, last_within slash t i found, ap length upto_end)) in
-          let w : parent_of s ≡ lead_of s ++ ends (drop a u) =
+      pub parent_more : (u : Text) → u ≡ ends (take i t) → Holds (a + length u) s (parent_of s)
+      parent_more u e =
+          let l = slash_within in
+          let v = take i t in
+          let w : parent_of s ≡ lead_of s ++ u =
           parent_some ∙ ap (λ (l : List Text). lead_of s ++ joined (trim_end (all_but_last l))) (last_more t i found)
-          ∙ ap (λ (l : List Text). lead_of s ++ joined (trim_end l)) (but_last (drop (i + 1) t) (split (take i t)))
-          ∙ ap (λ (l : Text). lead_of s ++ ends l) (v ∙ sym y) in
-          let b : take (length (ends (drop a u))) (drop a s) ≡ ends (drop a u) =
-          sym (take-take (length (ends (drop a u))) i (drop a s) (omega (arith, ends_le (drop a u), ap length y, length-take i (drop a s))))
-          ∙ ap (take (length (ends (drop a u)))) (sym y) ∙ trimmed_front (drop a u) in
+          ∙ ap (λ (l : List Text). lead_of s ++ joined (trim_end l)) (but_last (drop (i + 1) t) (split v))
+          ∙ ap (λ (l : Text). lead_of s ++ l) (sym e) in
+          let n : length u ≤ length v = omega (arith, ap length e, ends_le v) in
+          let k : length v ≡ i = length-take-le i t (omega (arith, l)) in
+          let b : take (length u) (drop a s) ≡ u =
+          sym (take-take (length u) (length t) (drop a s) (omega (arith, n, k, l))) ∙ ap (take (length u)) front
+          ∙ sym (take-take (length u) i t (omega (arith, n, k)))
+          ∙ ap (λ (l : Text). take (length l) v) e ∙ trimmed_front v ∙ sym e in
           rw w (record {
-            size = omega (arith, length-append (lead_of s) (ends (drop a u)));
-            bytes = rw (o, take-add a (length (ends (drop a u))) s, b, m, lead_front s);
+            size = omega (arith, length-append (lead_of s) u, m);
+            bytes = rw (take-add a (length u) s, b, m, lead_front s);
           })
 
 -- it is no longer than the path

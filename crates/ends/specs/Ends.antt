@@ -1,10 +1,7 @@
 -- The end of a path as Rust's `Path` reads it on Unix: up to the last component, without it, its file name and extension.
-use Rattle.std.specs.Prelude.{suc, zero, List, [], ◌∷◌, ◌++◌, cond, drop}
-use Rattle.std.proofs.Math.Option.{Option, some, none}
+use Rattle.std.specs.Prelude.{ℕ, suc, zero, List, [], ◌∷◌, ◌++◌, Option, Some, None, cond, drop}
 use Rattle.text.specs.Bytes.{Text, slash, dot}
 use Rattle.text.specs.Text.{find_last}
-use Rattle.text.specs.declared.Found.{Found}
-use Rattle.text.specs.declared.Found.TheVariants.{At, Nothing}
 use Rattle.components.specs.Components.{split, piece_of, is_skip, names, lead_of, rest_of, is_name, leads_dot}
 
 -- pieces with slashes between
@@ -57,22 +54,22 @@ last_piece s = last_of [] (split s)
 
 -- the last component, where it is a name; an empty text stands for no component
 unfoldable pub if_name : Text → Option Text
-if_name p = cond (is_name (piece_of p)) (some p) none
+if_name p = cond (is_name (piece_of p)) (Some p) None
 
 -- Path::file_name
 unfoldable pub file_name : Text → Option Text
 file_name s = if_name (last_of [] (names (split s)))
 
 -- what follows the last dot of a file name; a dot in front begins the stem: "`.ts` has no extension"
-unfoldable pub after_dot : Found → Text → Option Text
-after_dot Nothing p = none
-after_dot (At zero) p = none
-after_dot (At (suc i)) p = some (drop (suc (suc i)) p)
+unfoldable pub after_dot : Option ℕ → Text → Option Text
+after_dot None p = None
+after_dot (Some zero) p = None
+after_dot (Some (suc i)) p = Some (drop (suc (suc i)) p)
 
 -- of a file name
 unfoldable pub extension_of : Option Text → Option Text
-extension_of none = none
-extension_of (some p) = after_dot (find_last dot p) p
+extension_of None = None
+extension_of (Some p) = after_dot (find_last dot p) p
 
 -- Path::extension
 unfoldable pub extension : Text → Option Text

@@ -1,38 +1,29 @@
 // The file name of a path, and its extension.
 #![tactic(auto)]
 
-ghost use Rattle.std.specs.Prelude.{◌≡◌};
-ghost use Rattle.text.specs.Text.{part_of};
+ghost use Rattle.std.specs.Prelude.{◌≡◌, option_copied};
 ghost use Rattle.ends.specs.Ends.{file_name, extension};
 
 use components::is_name;
-use ends::{component_end, last_start};
-use text::{DOT, Found, Part, between, find_last, upto};
+use ends::{last_piece, trim_end};
+use text::{DOT, find_last, from};
 
-// Path::file_name, as a part of s.
-pub fn file_name(s: &[u8]) -> Part
-    ensures { part_of s.now result ≡ file_name s.now }
+// Path::file_name
+pub fn file_name(s: &[u8]) -> Option<&[u8]>
+    ensures { option_copied result ≡ file_name s.now }
 {
-    let e = component_end(s, 0);
-    let a = last_start(upto(s, e));
-    if !is_name(between(s, a, e)) {
-        return Part::Missing;
-    }
-    Part::Span(a, e)
+    let name = last_piece(trim_end(s));
+    is_name(name).then_some(name)
 }
 
-// Path::extension, as a part of s.
-pub fn extension(s: &[u8]) -> Part
-    ensures { part_of s.now result ≡ extension s.now }
+// Path::extension
+pub fn extension(s: &[u8]) -> Option<&[u8]>
+    ensures { option_copied result ≡ extension s.now }
 {
-    let Part::Span(a, e) = file_name(s) else {
-        return Part::Missing;
-    };
-    let Found::At(i) = find_last(between(s, a, e), DOT) else {
-        return Part::Missing;
-    };
-    if i == 0 {
-        return Part::Missing;
+    let name = file_name(s)?;
+    let (stem, dotted) = name.split_at(find_last(name, DOT)?);
+    if stem.is_empty() {
+        return None;
     }
-    Part::Span(a + i + 1, e)
+    Some(from(dotted, 1))
 }

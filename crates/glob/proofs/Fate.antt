@@ -8,7 +8,8 @@ use lib.ListN.{drop}
 use lib.Dec.{eqb}
 use Rattle.text.specs.Bytes.{Text, slash}
 use Rattle.text.specs.Text.{find_from}
-use Rattle.text.specs.declared.Found.TheVariants.{At, Nothing}
+use Rattle.text.proofs.Picks.{by_test}
+use Rattle.std.specs.Prelude.{Some, None}
 use Rattle.glob.specs.Glob.{eat, after, after_dirs, is_slash, no_slash, any_byte}
 use Rattle.glob.specs.Verdicts.{Sound, is_settled, is_decided, inside_of, past_of, dirs_of, is_yes}
 use Rattle.glob.specs.declared.Verdict.{Verdict}
@@ -35,10 +36,6 @@ and_when false b f = refl
 and_of : (a b : Bool) → (a && b) ≡ false → a ≡ true → b ≡ false
 and_of true b h e = h
 and_of false b h e = absurd (false≢true e)
-
-pub by_test : {X : Type 0} (b : Bool) → (b ≡ true → X) → (b ≡ false → X) → X
-by_test true f g = f refl
-by_test false f g = g refl
 
 module _ (ok : ℕ → Bool) (P : Text → Bool) where
   -- what fails after some bytes fails here
@@ -158,12 +155,6 @@ module _ (Q : Text → Bool) where
 
 -- Two stars
 
-at_none : (j : ℕ) → At j ≡ Nothing → ⊥
-at_none j e = let z : ◌≡◌ {A = ℕ} 0 1 = cc in omega arith
-
-at_at : (j i : ℕ) → At j ≡ At i → j ≡ i
-at_at j i e = cc
-
 module _ (Q : Text → Bool) where
   pub never_dirs : (s : Text) → after any_byte Q s ≡ false → after_dirs Q s ≡ false
   unfolding after_dirs after eat
@@ -199,20 +190,20 @@ module _ (Q : Text → Bool) where
   dirs_open s Never e h = absurd (true≢false e)
 
   -- no slash: nothing after one
-  slash_none : (s : Text) (j : ℕ) → find_from slash j s ≡ Nothing → after any_byte (eat is_slash Q) s ≡ false
+  slash_none : (s : Text) (j : ℕ) → find_from slash j s ≡ None → after any_byte (eat is_slash Q) s ≡ false
   unfolding find_from after eat
   slash_none [] j e = refl
   slash_none (x ∷ s) j e =
-      by_test (eqb x slash) (λ t. absurd (at_none j (rw t at e))) (λ f. rw f (slash_none s (suc j) (rw f at e)))
+      by_test (eqb x slash) (λ t. let z : Some j ≡ None = rw t at e in cc) (λ f. rw f (slash_none s (suc j) (rw f at e)))
 
   -- the first slash: what follows it
-  slash_at_lem : (s : Text) (j i : ℕ) → find_from slash j s ≡ At i → (j ≤ i) × (after any_byte (eat is_slash Q) s ≡ after_dirs Q (drop (suc (i - j)) s))
+  slash_at_lem : (s : Text) (j i : ℕ) → find_from slash j s ≡ Some i → (j ≤ i) × (after any_byte (eat is_slash Q) s ≡ after_dirs Q (drop (suc (i - j)) s))
   unfolding find_from after eat after_dirs
-  slash_at_lem [] j i e = let z : ◌≡◌ {A = ℕ} 0 1 = cc in let w : ⊥ = omega arith in absurd w
+  slash_at_lem [] j i e = let w : ⊥ = cc in absurd w
   slash_at_lem (x ∷ s) j i e =
       by_test (eqb x slash)
       (λ t.
-      let k : j ≡ i = at_at j i (rw t at e) in
+      let k : j ≡ i = (let z : Some j ≡ Some i = rw t at e in cc) in
       let z : i - j ≡ 0 = omega arith in
       (omega arith, rw (t, z)))
       (λ f.
@@ -220,7 +211,7 @@ module _ (Q : Text → Bool) where
       let z : i - j ≡ suc (i - suc j) = omega arith in
       (omega arith, rw (f, z) ih.1))
 
-  pub dirs_none : (s : Text) → Nothing ≡ find_from slash 0 s → Q s ≡ false → Sound Later (after_dirs Q) s
+  pub dirs_none : (s : Text) → None ≡ find_from slash 0 s → Q s ≡ false → Sound Later (after_dirs Q) s
   unfolding after_dirs
   dirs_none s e h = dirs_dirs s (or_none (Q s) _ h (slash_none s 0 (sym e)))
 
@@ -229,7 +220,7 @@ unfolding after_dirs
 dirs_past Q s h = rw h
 
 -- What `**/` makes of a text is what it makes of the text after the first slash, where the rest fails here.
-module _ (Q : Text → Bool) (s : Text) (i : ℕ) (e : At i ≡ find_from slash 0 s) (h : Q s ≡ false) where
+module _ (Q : Text → Bool) (s : Text) (i : ℕ) (e : Some i ≡ find_from slash 0 s) (h : Q s ≡ false) where
   slash_skip : (P : Text → Bool) → after any_byte (eat is_slash P) s ≡ after_dirs P (drop (i + 1) s)
   slash_skip P =
       let z : suc (i - 0) ≡ i + 1 = omega arith in

@@ -2,18 +2,23 @@
 use mathlib.Core.Path.{◌≡◌, refl, ap, sym, ◌∙◌}
 use mathlib.Core.List.{[], ◌∷◌, ◌++◌}
 use mathlib.Core.Bool.{Bool, true, false, not, cond, false≢true}
-use Prim.Native.Nat.{ℕ, suc, ◌+◌, ◌-◌, ◌≤◌, ◌<◌}
+use Prim.Native.Nat.{ℕ, suc, ◌+◌, ◌≤◌, ◌<◌}
 use native.Mathlib.Numerals.{add-one}
 use native.Mathlib.Omega.{arith}
 use lib.ListN.{length, get_or, take, drop, length-drop, drop_of_length-le}
-use lib.Seq.{drop-cons, take-suc, take-length}
+use lib.Seq.{drop-cons, take-suc}
 use lib.Dec.{eqb}
 use borrow.Author.Tests.{eq-eqb, ne_eqb, eqb-true, eqb-false, not-false}
+use mathlib.Core.List.{reverse}
+use Rattle.std.specs.List.{fold}
+use Rattle.std.proofs.lemmas.List.{reverse-append}
+use Rattle.std.proofs.lemmas.List.Sums.{fold-append}
 use Rattle.text.specs.Bytes.{Text, slash, star, question}
 use Rattle.glob.specs.Glob.{glob_of, eat, after, after_dirs, is_empty, no_slash, any_byte, after_star, Run, Dirs, Rest}
 use Rattle.glob.specs.Verdicts.{Sound, FrontIs, Ahead, AtStar, Leads, inside_of, past_of, behind_of, passed_of, takes_of}
 use Rattle.glob.proofs.Tokens.{glob_end, glob_byte, glob_run, glob_dirs, glob_rest, dirs_room}
-use Rattle.glob.proofs.Fate.{by_test, miss, inside_sound, past_sound}
+use Rattle.text.proofs.Picks.{by_test}
+use Rattle.glob.proofs.Fate.{miss, inside_sound, past_sound}
 use Rattle.glob.specs.declared.Front.{Front}
 use Rattle.glob.specs.declared.Front.TheVariants.{Known, Star, Stars}
 use Rattle.glob.specs.declared.Verdict.{Verdict}
@@ -70,20 +75,13 @@ cond_same : {A : Type 0} (b : Bool) (a : A) → cond b a a ≡ a
 cond_same true a = refl
 cond_same false a = refl
 
--- a scan from the end, whose next place is i - 1
-
-pub passed_start : (w : Text) (v : Verdict) → passed_of (take (length w) w) v ≡ passed_of w v
-passed_start w v = rw (take-length w)
-
-pub passed_on : (w : Text) (i : ℕ) → 0 < i → i ≤ length w → (v : Verdict) → passed_of (take (i - 1) w) (behind_of (get_or w (i - 1) 0) v) ≡ passed_of (take i w) v
-passed_on w i some h v =
-    let z : suc (i - 1) ≡ i = omega arith in
-    let k : i - 1 < length w = omega arith in
-    sym (rw z at (ap (λ l. passed_of l v) (take-suc w (i - 1) 0 k) ∙ passed_more (take (i - 1) w) (get_or w (i - 1) 0) v))
-
-pub passed_end : (w : Text) (i : ℕ) (v : Verdict) → i ≤ 0 → passed_of (take i w) v ≡ v
+-- from the last byte to the first
+pub passed_by_fold : (w : Text) (v : Verdict) → fold (λ (u : Verdict) (x : ℕ). behind_of x u) v (reverse w) ≡ passed_of w v
 unfolding passed_of
-passed_end w i v h = let z : i ≡ 0 = omega arith in rw z
+passed_by_fold [] v = refl
+passed_by_fold (x ∷ w) v =
+    let f = λ (u : Verdict) (y : ℕ). behind_of y u in
+    ap (fold f v) (reverse-append (x ∷ []) w) ∙ (fold-append f v (reverse w) (x ∷ []) ∙ ap (behind_of x) (passed_by_fold w v))
 
 -- A scan over p and s, whose next place is i
 
@@ -148,6 +146,7 @@ module _ (p s : Text) (i : ℕ) (a : AtStar i p s) (q : Text) (e : q ≡ drop (i
   star_leads t =
       record {
         room = let h = a.room in omega arith;
+        path = a.ahead.path;
         whole = λ v k. a.ahead.whole v (rw (glob_run p i a.room a.here (ap after_star (sym e) ∙ t)) k);
       }
 
@@ -155,6 +154,7 @@ module _ (p s : Text) (i : ℕ) (a : AtStar i p s) (q : Text) (e : q ≡ drop (i
   stars_leads t =
       record {
         room = let h = a.room in omega (arith, dirs_room q t, ap length e, length-drop (i + 1) p);
+        path = a.ahead.path;
         whole = λ v k. a.ahead.whole v (rw (glob_dirs p i a.room a.here (ap after_star (sym e) ∙ t)) k);
       }
 

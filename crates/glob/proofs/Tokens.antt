@@ -13,9 +13,6 @@ use Rattle.text.specs.Bytes.{Text, slash, star, question}
 use Rattle.glob.specs.Glob.{Token, Byte, One, Run, Dirs, Rest, token_at, after_star, after_stars, more, tokens, match_tokens, glob_of, eat, after, after_dirs, is_empty, no_slash}
 use Rattle.glob.specs.Verdicts.{takes_of}
 
-no : {A : Type 0} (n : ℕ) → suc n ≤ 0 → A
-no n h = let z : ⊥ = omega arith in absurd z
-
 -- What a star begins, by the bytes q after it
 
 pub run_last : (q : Text) → length q ≡ 0 → after_star q ≡ Run
@@ -49,12 +46,12 @@ module _ (q : Text) (h : length q ≡ 0 → ⊥) (e : get_or q 0 0 ≡ star) whe
 -- `**/` has two bytes after its first star
 pub dirs_room : (q : Text) → after_star q ≡ Dirs → 2 ≤ length q
 unfolding after_star after_stars
-dirs_room [] e = let z : ◌≡◌ {A = ℕ} 0 1 = cc in let w : ⊥ = omega arith in absurd w
+dirs_room [] e = let w : ⊥ = cc in absurd w
 dirs_room (d ∷ []) e = go (eqb d star) e
   where
     go : (b : Bool) → cond b Rest Run ≡ Dirs → 2 ≤ 1
-    go true e = let z : ◌≡◌ {A = ℕ} 0 1 = cc in omega arith
-    go false e = let z : ◌≡◌ {A = ℕ} 0 1 = cc in omega arith
+    go true e = let w : ⊥ = cc in absurd w
+    go false e = let w : ⊥ = cc in absurd w
 dirs_room (d ∷ f ∷ q) e = omega arith
 
 -- The tokens of a pattern are its first and those of the bytes after that

@@ -92,6 +92,7 @@ pub record AtStar (i : ℕ) (p s : Text) : Type 0 where
 -- Q says what the token makes of what follows it.
 pub record Leads (n k : ℕ) (Q : (Text → Bool) → Text → Bool) (p s : Text) : Type 0 where
   pub room : k + n ≤ length p
+  pub path : k ≤ length s
   pub whole : (v : Verdict) → Sound v (Q (glob_of (drop (k + n) p))) (drop k s) → Sound (passed_of (take k s) v) (glob_of p) s
 
 -- what is said of a pattern up to its first star
@@ -100,13 +101,7 @@ FrontIs (Known v) p s = Sound v (glob_of p) s
 FrontIs (Star k) p s = Leads 1 k (after no_slash) p s
 FrontIs (Stars k) p s = Leads 3 k after_dirs p s
 
--- where the answer is no, P holds of no path that begins with x
-abbrev pub MayBegin : Bool → (Text → Bool) → ℕ → Type 0
-MayBegin true P x = Unit {0}
-MayBegin false P x = (s : Text) → P (x ∷ s) ≡ false
-
--- after a star the places of s from i up to j need no try of P
-pub record Skips (P : Text → Bool) (s : Text) (i j : ℕ) : Type 0 where
-  pub start : i ≤ j
+-- after a star the first j places of s need no try of P
+pub record Skips (P : Text → Bool) (s : Text) (j : ℕ) : Type 0 where
   pub room : j ≤ length s
-  pub whole : (v : Verdict) → Sound v (after no_slash P) (drop j s) → Sound (inside_of v) (after no_slash P) (drop i s)
+  pub whole : (v : Verdict) → Sound v (after no_slash P) (drop j s) → Sound (inside_of v) (after no_slash P) s

@@ -1,14 +1,14 @@
 // A pattern with `?`, `*` and `**` up to its first star, and how it fares against a path.
 #![tactic(auto)]
 
-ghost use Rattle.std.specs.Prelude.{◌≡◌, ◌≤◌, length, take};
+ghost use Rattle.std.specs.Prelude.{◌≡◌};
 ghost use Rattle.glob.specs.Glob.{glob_of};
-ghost use Rattle.glob.specs.Verdicts.{FrontIs, AtStar, MayBegin, Skips, is_yes, is_settled, is_decided, inside_of, past_of, dirs_of, behind_of, passed_of, takes_of};
+ghost use Rattle.glob.specs.Verdicts.{FrontIs, AtStar, Skips, is_yes, is_settled, is_decided, inside_of, past_of, dirs_of, behind_of, passed_of, takes_of};
 
-use text::{QUESTION, SLASH, STAR, from, upto};
+use text::{QUESTION, SLASH, STAR};
 
 // How a pattern fares against a path. A failure says where else it fails too, so that an earlier star need not try there.
-#[derive(Clone, Copy)]
+#[derive(Clone, Copy, PartialEq, Eq)]
 pub enum Verdict {
     Yes,
     // It fails here.
@@ -22,7 +22,7 @@ pub enum Verdict {
 }
 
 // What a pattern comes to before its first star.
-#[derive(Clone, Copy)]
+#[derive(Clone, Copy, PartialEq, Eq)]
 pub enum Front {
     // No star decides it, or a last `**` does.
     Known(Verdict),
@@ -32,115 +32,83 @@ pub enum Front {
     Stars(usize),
 }
 
-pub fn yes(v: Verdict) -> bool
-    ensures { result ≡ is_yes v }
-{
-    match v {
-        Verdict::Yes => true,
-        Verdict::No => false,
-        Verdict::Stop => false,
-        Verdict::Later => false,
-        Verdict::Never => false,
+impl Verdict {
+    pub fn is_yes(self) -> bool
+        ensures { result ≡ is_yes self }
+    {
+        matches!(self, Verdict::Yes)
     }
-}
 
-// Whether a verdict after a star leaves nothing to try.
-pub fn settled(v: Verdict) -> bool
-    ensures { result ≡ is_settled v }
-{
-    match v {
-        Verdict::Yes => true,
-        Verdict::No => false,
-        Verdict::Stop => true,
-        Verdict::Later => false,
-        Verdict::Never => true,
+    // Whether a verdict after a star leaves nothing to try.
+    pub fn is_settled(self) -> bool
+        ensures { result ≡ is_settled self }
+    {
+        matches!(self, Verdict::Yes | Verdict::Stop | Verdict::Never)
     }
-}
 
-// Whether a verdict after `**/` leaves nothing to try.
-pub fn decided(v: Verdict) -> bool
-    ensures { result ≡ is_decided v }
-{
-    match v {
-        Verdict::Yes => true,
-        Verdict::No => false,
-        Verdict::Stop => false,
-        Verdict::Later => true,
-        Verdict::Never => true,
+    // Whether a verdict after `**/` leaves nothing to try.
+    pub fn is_decided(self) -> bool
+        ensures { result ≡ is_decided self }
+    {
+        matches!(self, Verdict::Yes | Verdict::Later | Verdict::Never)
     }
-}
 
-// The verdict with a byte in front that is no slash.
-fn inside(v: Verdict) -> Verdict
-    ensures { result ≡ inside_of v }
-{
-    match v {
-        Verdict::Yes => Verdict::Yes,
-        Verdict::No => Verdict::No,
-        Verdict::Stop => Verdict::Stop,
-        Verdict::Later => Verdict::No,
-        Verdict::Never => Verdict::Never,
+    // The verdict with a byte in front that is no slash.
+    fn inside(self) -> Verdict
+        ensures { result ≡ inside_of self }
+    {
+        match self {
+            Verdict::No | Verdict::Later => Verdict::No,
+            Verdict::Yes | Verdict::Stop | Verdict::Never => self,
+        }
     }
-}
 
-// The verdict with a slash in front.
-fn past(v: Verdict) -> Verdict
-    ensures { result ≡ past_of v }
-{
-    match v {
-        Verdict::Yes => Verdict::Yes,
-        Verdict::No => Verdict::No,
-        Verdict::Stop => Verdict::No,
-        Verdict::Later => Verdict::Never,
-        Verdict::Never => Verdict::Never,
+    // The verdict with a slash in front.
+    fn past(self) -> Verdict
+        ensures { result ≡ past_of self }
+    {
+        match self {
+            Verdict::Yes => Verdict::Yes,
+            Verdict::No | Verdict::Stop => Verdict::No,
+            Verdict::Later | Verdict::Never => Verdict::Never,
+        }
     }
-}
 
-// The verdict with `**/` in front.
-pub fn dirs(v: Verdict) -> Verdict
-    ensures { result ≡ dirs_of v }
-{
-    match v {
-        Verdict::Yes => Verdict::Yes,
-        Verdict::No => Verdict::No,
-        Verdict::Stop => Verdict::No,
-        Verdict::Later => Verdict::Later,
-        Verdict::Never => Verdict::Later,
+    // The verdict with `**/` in front.
+    pub fn dirs(self) -> Verdict
+        ensures { result ≡ dirs_of self }
+    {
+        match self {
+            Verdict::Yes => Verdict::Yes,
+            Verdict::No | Verdict::Stop => Verdict::No,
+            Verdict::Later | Verdict::Never => Verdict::Later,
+        }
     }
-}
 
-// The verdict with the byte x of the path in front.
-fn behind(x: u8, v: Verdict) -> Verdict
-    ensures { result ≡ behind_of x v }
-{
-    if x == SLASH {
-        return past(v);
+    // The verdict with the byte x of the path in front.
+    fn behind(self, x: u8) -> Verdict
+        ensures { result ≡ behind_of x self }
+    {
+        if x == SLASH {
+            self.past()
+        } else {
+            self.inside()
+        }
     }
-    inside(v)
-}
 
-// The verdict with the first k bytes of s in front.
-pub fn passed(s: &[u8], k: usize, v: Verdict) -> Verdict
-    ensures { result ≡ passed_of (take k s.now) v }
-{
-    let w = upto(s, k);
-    let mut i = w.len();
-    let mut u = v;
-    while 0 < i {
-        i -= 1;
-        u = behind(w[i], u);
+    // The verdict with the bytes w of the path in front.
+    pub fn passed(self, w: &[u8]) -> Verdict
+        ensures { result ≡ passed_of w.now self }
+    {
+        w.iter().rev().fold(self, |v, x| v.behind(*x))
     }
-    u
 }
 
 // Whether the byte c of a pattern, no star, takes the byte x of a path.
 fn takes(c: u8, x: u8) -> bool
     ensures { result ≡ takes_of c x }
 {
-    if c == QUESTION {
-        return x != SLASH;
-    }
-    x == c
+    x == c || c == QUESTION && x != SLASH
 }
 
 // What the star at i comes to, before which p takes the first i bytes of s.
@@ -148,78 +116,46 @@ fn at_star(p: &[u8], s: &[u8], i: usize) -> Front
     requires { AtStar i p.now s.now }
     ensures { FrontIs result p.now s.now }
 {
-    let rest = from(p, i + 1);
-    if rest.len() == 0 {
-        return Front::Star(i);
+    match &p[i + 1..] {
+        [STAR] if s.len() == i => Front::Known(Verdict::Never),
+        [STAR] => Front::Known(Verdict::Yes),
+        [STAR, SLASH, ..] => Front::Stars(i),
+        _ => Front::Star(i),
     }
-    if rest[0] != STAR {
-        return Front::Star(i);
-    }
-    if rest.len() == 1 {
-        if s.len() == i {
-            return Front::Known(Verdict::Never);
-        }
-        return Front::Known(Verdict::Yes);
-    }
-    if rest[1] == SLASH {
-        return Front::Stars(i);
-    }
-    Front::Star(i)
 }
 
 // p against s up to the first star of p.
 pub fn reach(p: &[u8], s: &[u8]) -> Front
     ensures { FrontIs result p.now s.now }
 {
-    let mut i = 0;
-    while i < p.len() {
-        let c = p[i];
-        if c == STAR {
+    for (i, c) in p.iter().enumerate() {
+        if *c == STAR {
             return at_star(p, s, i);
         }
         if i == s.len() {
             return Front::Known(Verdict::Never);
         }
-        if !takes(c, s[i]) {
+        if !takes(*c, s[i]) {
             return Front::Known(Verdict::No);
         }
-        i += 1;
     }
-    if i == s.len() {
-        return Front::Known(Verdict::Yes);
-    }
-    Front::Known(Verdict::No)
+    Front::Known(if p.len() == s.len() {
+        Verdict::Yes
+    } else {
+        Verdict::No
+    })
 }
 
-// Whether the pattern p can begin with the byte x of a path.
-fn may_begin(p: &[u8], x: u8) -> bool
-    ensures { MayBegin result (glob_of p.now) x }
+// How many bytes of s come before the next place at which p can begin, or before the component's end.
+pub fn skip(p: &[u8], s: &[u8]) -> usize
+    ensures { Skips (glob_of p.now) s.now result }
 {
-    if p.len() == 0 {
-        return false;
+    match p {
+        [] => s.iter().position(|x| *x == SLASH).unwrap_or(s.len()),
+        [STAR | QUESTION, ..] => 0,
+        [c, ..] => s
+            .iter()
+            .position(|x| *x == SLASH || x == c)
+            .unwrap_or(s.len()),
     }
-    let c = p[0];
-    if c == STAR {
-        return true;
-    }
-    takes(c, x)
-}
-
-// The next place of s from i on, in the same component, at which p can begin, or the component's end.
-pub fn skip(p: &[u8], s: &[u8], i: usize) -> usize
-    requires { i ≤ length s.now }
-    ensures { Skips (glob_of p.now) s.now i result }
-{
-    let mut j = i;
-    while j < s.len() {
-        let x = s[j];
-        if x == SLASH {
-            return j;
-        }
-        if may_begin(p, x) {
-            return j;
-        }
-        j += 1;
-    }
-    j
 }

@@ -1,5 +1,5 @@
 -- Laws of the definitions of specs/.
 pub mod Buffer
 pub mod Plain
-pub mod Walk
+pub mod Pieces
 pub mod Cases

@@ -3,15 +3,15 @@
 use mathlib.Core.Path.{◌≡◌, refl, sym, ◌∙◌}
 use mathlib.Core.List.{List, [], ◌∷◌, ◌++◌, append_assoc, append-nil}
 use mathlib.Core.Bool.{Bool, true, false, not, ◌&&◌, ◌||◌}
-use Prim.Native.Nat.{ℕ, suc, ◌+◌, ◌-◌, ◌≤◌, ◌<◌}
+use Prim.Native.Nat.{ℕ, ◌+◌, ◌-◌}
 use native.Mathlib.Omega.{arith}
-use native.Mathlib.Numerals.{add-one}
-use lib.ListN.{length, get_or, drop, length-append, drop_of_length-le}
-use lib.Seq.{drop-cons}
+use lib.ListN.{length, get_or, length-append}
 use lib.Dec.{eqb}
-use borrow.Author.Tests.{eq-eqb, ne_eqb, eqb-true, eqb-false, not-true, not-false}
+use borrow.Author.Tests.{eqb-true, eqb-false, not-true}
 use Rattle.text.specs.Bytes.{Text, slash, dot}
+use Rattle.std.specs.List.{list_all, slice_split, onto_first}
 use Rattle.text.specs.Text.{each_of}
+use Rattle.text.proofs.Scans.{each_as_std}
 use Rattle.text.proofs.Picks.{by_test, never, both_left, both_right}
 use Rattle.components.specs.Components.{split, on_first, piece_of, starts}
 use Rattle.components.specs.Places.{first_of}
@@ -20,6 +20,23 @@ use Rattle.components.proofs.Pieces.{by_split, piece_name}
 use Rattle.join.specs.Join.{joint, push_of, step_of, step_by, walk_of}
 use Rattle.join.specs.Plain.{opens_name, plain_name, plain_names}
 use Rattle.join.proofs.Buffer.{joint_some}
+
+-- The pieces as std cuts them
+
+cut_is : (x : ℕ) (q : List Text) → onto_first x q ≡ on_first x q
+unfolding on_first
+cut_is x [] = refl
+cut_is x (p ∷ ps) = refl
+
+pub pieces_as_std : (s : Text) → slice_split (λ (x : ℕ). eqb x slash) s ≡ split s
+unfolding split
+pieces_as_std [] = refl
+pieces_as_std (x ∷ s) = rw (pieces_as_std s, cut_is x (split s)) refl
+
+-- what `all` over the pieces answers
+pub plain_as_std : (s : Text) → list_all plain_name (slice_split (λ (x : ℕ). eqb x slash) s) ≡ plain_names s
+unfolding plain_names
+plain_as_std s = rw (pieces_as_std s) (each_as_std plain_name (split s))
 
 -- Where each piece is a plain name, one begins at the start and behind each slash
 
@@ -61,62 +78,6 @@ after_others (x ∷ s) =
 plain_after : (s : Text) → plain_names s ≡ opens_name (get_or s 0 slash) && names_after s
 unfolding plain_names
 plain_after s = each_first s ∙ rw (first_plain s, after_others s)
-
--- which byte opens a name
-
-pub opens_low : (x : ℕ) → x < dot → true ≡ opens_name x
-opens_low x h = rw (ne_eqb x slash (omega arith), ne_eqb x dot (omega arith))
-
-pub opens_high : (x : ℕ) → slash < x → true ≡ opens_name x
-opens_high x h = rw (ne_eqb x slash (omega arith), ne_eqb x dot (omega arith))
-
-pub opens_not : (x : ℕ) → dot ≤ x → x ≤ slash → false ≡ opens_name x
-opens_not x h l = by_test (eqb x slash) (λ t. rw t) (λ f. rw (f, eq-eqb x dot (omega (arith, eqb-false x slash f))))
-
--- the loop: k is what the code finds of the first byte, or of the one behind a slash
-
-first_byte : (s : Text) → 0 < length s → get_or s 0 slash ≡ get_or s 0 0
-first_byte [] h = never (omega arith)
-first_byte (x ∷ s) h = refl
-
-pub plain_none : (s : Text) → length s ≡ 0 → false ≡ plain_names s
-unfolding plain_names plain_name split each_of
-plain_none [] h = refl
-plain_none (x ∷ s) h = never (omega arith)
-
-module _ (s : Text) (some : length s ≡ 0 → ⊥) (k : Bool) (e : k ≡ opens_name (get_or s 0 0)) where
-  starts_by : plain_names s ≡ k && names_after s
-  starts_by = plain_after s ∙ rw (first_byte s (omega arith), ← e)
-
-  pub plain_not : not k ≡ true → false ≡ plain_names s
-  plain_not n = sym (starts_by ∙ rw (not-true k n))
-
-  pub plain_start : not k ≡ false → names_after s ≡ plain_names s
-  plain_start n = sym (starts_by ∙ rw (not-false k n))
-
-module _ (s : Text) (i : ℕ) where
-  pub after_pass : i < length s → (get_or s i 0 ≡ slash → ⊥) → names_after (drop (i + 1) s) ≡ names_after (drop i s)
-  unfolding names_after
-  after_pass h n = rw (add-one, drop-cons s i 0 h, ne_eqb (get_or s i 0) slash n)
-
-  module _ (h : i < length s - 1) (w : get_or s i 0 ≡ slash) (k : Bool) (e : k ≡ opens_name (get_or s (i + 1) 0)) where
-    after_by : names_after (drop i s) ≡ k && names_after (drop (i + 1) s)
-    unfolding names_after
-    after_by = rw (e, drop-cons s i 0 (omega arith), w, add-one, drop-cons s (suc i) 0 (omega arith))
-
-    pub after_on : not k ≡ false → names_after (drop (i + 1) s) ≡ names_after (drop i s)
-    after_on n = sym (after_by ∙ rw (not-false k n))
-
-    pub after_not : not k ≡ true → false ≡ names_after (drop i s)
-    after_not n = sym (after_by ∙ rw (not-true k n))
-
-  -- the last byte
-  pub after_last : (length s ≡ 0 → ⊥) → i ≤ length s - 1 → length s - 1 ≤ i → not (eqb (get_or s (length s - 1) 0) slash) ≡ names_after (drop i s)
-  unfolding names_after
-  after_last some l g =
-      let e : length s - 1 ≡ i = omega arith in
-      rw (e, drop-cons s i 0 (omega arith), drop_of_length-le s {i = suc i} (omega arith))
-      (by_test (eqb (get_or s i 0) slash) (λ t. rw t) (λ f. rw f))
 
 -- One name after the other is all of it at once
 

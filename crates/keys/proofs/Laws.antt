@@ -1,95 +1,103 @@
 -- Laws of a key's match and of the piece that its star stood for. Assumes nothing.
-use mathlib.Core.Path.{◌≡◌, refl, sym, ◌∙◌}
-use mathlib.Core.List.{[]}
-use mathlib.Core.Bool.{Bool, true, false, ◌&&◌}
-use mathlib.Core.Option.{some, none, get_or}
-use Prim.Native.Nat.{ℕ, suc, ◌+◌, ◌-◌, ◌≤◌, ◌<◌}
-use native.Mathlib.Omega.{arith}
-use native.Mathlib.Numerals.{add-one}
-use lib.ListN.{length, take, drop, length-drop}
-use lib.Seq.{length-take-le}
-use lib.Dec.{leb}
-use borrow.Author.Tests.{le-leb, lt-leb, leb-true}
+use Rattle.std.proofs.Common.{◌≡◌, ℕ, ◌+◌, ◌-◌, ◌≤◌, ◌<◌, Bool, true, false, ◌&&◌, eqb, leb, [], ◌∷◌, length, take, drop, Option, Some, None, Bor, refl, sym, ap, ◌∙◌, add-one, arith}
+use Rattle.std.specs.Option.{MatchOption, option_copied}
+use Rattle.std.specs.Cmp.Lexicographic.{pointwise}
+use lib.Seq.{length-take-le, drop-drop}
+use borrow.Author.Tests.{le-leb, lt-leb, leb-true, leb-false}
 use Rattle.text.specs.Bytes.{Text}
 use Rattle.text.specs.Text.{prefix_of, same_text, star_of, between}
-use Rattle.text.specs.declared.Found.{Found}
-use Rattle.text.specs.declared.Found.TheVariants.{At, Nothing}
-use Rattle.text.proofs.Scans.{find_within}
+use Rattle.text.proofs.Picks.{by_test}
+use Rattle.text.proofs.Scans.{find_within, same_as_std}
 use Rattle.keys.specs.Keys.{prefix, suffix, matches_at, part_at, key_part, is_match}
 
--- t is the suffix as the code cuts it
-module _ (key : Text) (i : ℕ) (s t : Text) (inside : i < length key) (d : t ≡ drop (i + 1) key) where
-  tail : t ≡ suffix key i
-  tail = rw (← add-one) d
+-- as the code tests it
+pub as_tested :
+    (key s : Text) (i : ℕ) → i < length key →
+    matches_at key i s
+    ≡ (leb (i + length (drop (i + 1) key)) (length s) && (prefix_of (take i key) s && same_text (drop (length s - length (drop (i + 1) key)) s) (drop (i + 1) key)))
+unfolding matches_at
+as_tested key s i inside = let h : i ≤ length key = omega arith in rw (add-one i, length-take-le i key h)
 
-  short : length s < i + length t → leb (length (prefix key i) + length (suffix key i)) (length s) ≡ false
-  short h = lt-leb (length (prefix key i) + length (suffix key i)) (length s) (rw (length-take-le i key (omega arith), ← tail) h)
+-- what `strip_prefix` compares
+begins : (p s : Text) → pointwise eqb (take (length p) s) p ≡ prefix_of p s
+unfolding prefix_of
+begins [] s = refl
+begins (x ∷ p) [] = refl
+begins (x ∷ p) (y ∷ s) = rw (begins p s) refl
 
-  pub short_suffix : length s < length t → false ≡ matches_at key i s
-  unfolding matches_at
-  short_suffix h = rw (short (omega arith))
-
-  pub short_prefix : length t ≤ length s → length s - length t < i → false ≡ matches_at key i s
-  unfolding matches_at
-  short_prefix g h = rw (short (omega arith))
-
-  module _ (g : length t ≤ length s) (h : i ≤ length s - length t) (p : Bool) (e : p ≡ prefix_of (take i key) s) where
-    long : leb (length (prefix key i) + length (suffix key i)) (length s) ≡ true
-    long = le-leb (length (prefix key i) + length (suffix key i)) (length s) (rw (length-take-le i key (omega arith), ← tail) (omega arith))
-
-    pub other_prefix : p ≡ false → false ≡ matches_at key i s
-    unfolding matches_at
-    other_prefix f = rw (long, ← e, f)
-
-    pub both : p ≡ true → (r : Bool) (u : Text) → u ≡ drop (length s - length t) s → r ≡ same_text u t → r ≡ matches_at key i s
-    unfolding matches_at
-    both f r u k q = rw (long, ← e, f, ← tail, ← k) q
-
-first : (a b : Bool) → (a && b) ≡ true → a ≡ true
-first true b e = refl
-first false b e = e
+ends : (a b : Text) → pointwise eqb a b ≡ same_text a b
+ends a b = same_as_std (pointwise eqb a b) a b refl
 
 -- what the star search found
-module _ (key s : Text) (r : Found) (f : r ≡ star_of key) where
-  pub star_in : (i : ℕ) → r ≡ At i → i < length key
-  star_in i e = find_within _ key i (rw e at f)
-
-  no_star : r ≡ Nothing → key_part key s ≡ none
+module _ (key s : Text) (r : Option ℕ) (f : r ≡ star_of key) where
+  no_star : r ≡ None → key_part key s ≡ None
   unfolding key_part part_at
   no_star n = rw (← f, n)
 
-  pub none_told : r ≡ Nothing → false ≡ is_match (key_part key s)
+  pub none_told : r ≡ None → false ≡ is_match (key_part key s)
   none_told n = rw (no_star n)
 
-  pub none_part : r ≡ Nothing → [] ≡ get_or (key_part key s) []
-  none_part n = rw (no_star n)
+  pub none_part : r ≡ None → None ≡ key_part key s
+  none_part n = sym (no_star n)
 
-  module _ (i : ℕ) (e : r ≡ At i) (b : Bool) (q : b ≡ matches_at key i s) where
-    no_match : b ≡ false → key_part key s ≡ none
+  module _ (i : ℕ) (e : r ≡ Some i) where
+    pub star_in : i < length key
+    star_in = find_within _ key i (rw e at f)
+
+    no_match : matches_at key i s ≡ false → key_part key s ≡ None
     unfolding key_part part_at
-    no_match n = rw (← f, e, ← q, n)
+    no_match n = rw (← f, e, n)
 
-    pub miss_told : b ≡ false → false ≡ is_match (key_part key s)
-    miss_told n = rw (no_match n)
-
-    pub miss_part : b ≡ false → [] ≡ get_or (key_part key s) []
-    miss_part n = rw (no_match n)
-
-    match : b ≡ true → key_part key s ≡ some (between i (length s - length (suffix key i)) s)
+    match : matches_at key i s ≡ true → key_part key s ≡ Some (between i (length s - length (suffix key i)) s)
     unfolding key_part part_at
-    match n = rw (← f, e, ← q, n)
+    match n = rw (← f, e, n)
 
-    pub match_told : b ≡ true → true ≡ is_match (key_part key s)
-    match_told n = rw (match n)
+    pub miss_told : (b : Bool) → b ≡ matches_at key i s → b ≡ false → false ≡ is_match (key_part key s)
+    miss_told b q n = rw (no_match (sym q ∙ n))
 
-    pub match_part : b ≡ true → (u : Text) → u ≡ between i (length s - (length key - i - 1)) s → u ≡ get_or (key_part key s) []
-    match_part n u k =
-        let z : length (drop (suc i) key) ≡ length key - i - 1 = omega (arith, length-drop (suc i) key) in
-        rw (match n, z) k
+    pub match_told : (b : Bool) → b ≡ matches_at key i s → b ≡ true → true ≡ is_match (key_part key s)
+    match_told b q n = rw (match (sym q ∙ n))
 
-    pub suffix_fits : b ≡ true → length key - i - 1 ≤ length s
+    -- the bytes before the star are not those that the specifier begins with
+    pub prefix_missed : pointwise eqb (take (length (take i key)) s) (take i key) ≡ false → None ≡ key_part key s
     unfolding matches_at
-    suffix_fits n =
-        let z : length (drop (suc i) key) ≡ length key - i - 1 = omega (arith, length-drop (suc i) key) in
-        let h = leb-true (length (prefix key i) + length (suffix key i)) (length s) (first _ _ (sym q ∙ n)) in
-        omega arith
+    prefix_missed n = sym (no_match (rw (sym (begins (take i key) s) ∙ n) (nothing (leb (length (prefix key i) + length (suffix key i)) (length s)))))
+      where
+        nothing : (b : Bool) → (b && false) ≡ false
+        nothing true = refl
+        nothing false = refl
+
+    -- the first i bytes are those before the star, and rest is what follows them; suf is what follows the star
+    module _ (rest suf : Text) (p : pointwise eqb (take (length (take i key)) s) (take i key) ≡ true) (d : rest ≡ drop (length (take i key)) s) (n : length rest + length (take i key) ≡ length s) (g : suf ≡ drop (i + 1) key) where
+      rest_is : rest ≡ drop i s
+      rest_is = let z : length (take i key) ≡ i = length-take-le i key (omega (arith, star_in)) in rw z at d
+
+      counted : length rest + i ≡ length s
+      counted = omega (arith, n, length-take-le i key (omega (arith, star_in)))
+
+      suffix_is : suffix key i ≡ suf
+      suffix_is = sym (rw add-one at g)
+
+      tail_same : length suf ≤ length rest → drop (length s - length suf) s ≡ drop (length rest - length suf) rest
+      tail_same h = let z : length s - length suf ≡ i + (length rest - length suf) = omega (arith, counted) in rw (z, ← drop-drop (length rest - length suf) i s, ← rest_is)
+
+      reads : length suf ≤ length rest → matches_at key i s ≡ pointwise eqb (drop (length rest - length suf) rest) suf
+      unfolding matches_at
+      reads h =
+          let k : leb (length (prefix key i) + length (suffix key i)) (length s) ≡ true = le-leb _ _ (omega (arith, counted, length-take-le i key (omega (arith, star_in)), ap length suffix_is)) in
+          rw (k, sym (begins (take i key) s) ∙ p, suffix_is, tail_same h) (sym (ends (drop (length rest - length suf) rest) suf))
+
+      short : length rest < length suf → matches_at key i s ≡ false
+      unfolding matches_at
+      short h =
+          let k : leb (length (prefix key i) + length (suffix key i)) (length s) ≡ false = lt-leb _ _ (omega (arith, counted, length-take-le i key (omega (arith, star_in)), ap length suffix_is)) in
+          rw k
+
+      piece_same : take (length rest - length suf) rest ≡ between i (length s - length (suffix key i)) s
+      piece_same = let z : length s - length suf - i ≡ length rest - length suf = omega (arith, counted) in rw (suffix_is, z, rest_is)
+
+      pub piece_is :
+          (r : Option (Bor Text)) → MatchOption r (pointwise eqb (drop (length rest - length suf) rest) suf ≡ false) (λ x. (pointwise eqb (drop (length rest - length suf) rest) suf ≡ true) × (x.now ≡ take (length rest - length suf) rest) × (length x.now + length suf ≡ length rest)) →
+          option_copied r ≡ key_part key s
+      piece_is None h = sym (no_match (by_test (leb (length suf) (length rest)) (λ t. reads (leb-true _ _ t) ∙ h) (λ t. short (leb-false _ _ t))))
+      piece_is (Some x) h = ap (λ (t : Text). Some t) (h.1 ∙ piece_same) ∙ sym (match (reads (omega (arith, h.2)) ∙ h.0))

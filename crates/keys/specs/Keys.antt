@@ -1,10 +1,7 @@
 -- A key of `paths` against a specifier: CompiledTsconfigPaths::resolve for one key.
-use Rattle.std.specs.Prelude.{ℕ, suc, ◌+◌, ◌-◌, Bool, true, false, ◌&&◌, cond, leb, length, take, drop}
-use Rattle.std.proofs.Math.Option.{Option, some, none}
+use Rattle.std.specs.Prelude.{ℕ, suc, ◌+◌, ◌-◌, Bool, ◌&&◌, cond, leb, length, take, drop, Option, Some, None, is_some}
 use Rattle.text.specs.Bytes.{Text}
 use Rattle.text.specs.Text.{prefix_of, same_text, star_of, between}
-use Rattle.text.specs.declared.Found.{Found}
-use Rattle.text.specs.declared.Found.TheVariants.{At, Nothing}
 
 -- what stands before and after the star at i: "the first star divides"
 abbrev pub prefix : Text → ℕ → Text
@@ -21,9 +18,9 @@ matches_at key i s =
     && (prefix_of (prefix key i) s && same_text (drop (length s - length (suffix key i)) s) (suffix key i))
 
 -- the piece, by where the star of the key stands
-unfoldable pub part_at : Found → Text → Text → Option Text
-part_at Nothing key s = none
-part_at (At i) key s = cond (matches_at key i s) (some (between i (length s - length (suffix key i)) s)) none
+unfoldable pub part_at : Option ℕ → Text → Text → Option Text
+part_at None key s = None
+part_at (Some i) key s = cond (matches_at key i s) (Some (between i (length s - length (suffix key i)) s)) None
 
 -- the piece of the specifier that the star stood for, where the key has a star and matches
 unfoldable pub key_part : Text → Text → Option Text
@@ -31,5 +28,4 @@ key_part key s = part_at (star_of key) key s
 
 -- whether there was a match
 abbrev pub is_match : Option Text → Bool
-is_match none = false
-is_match (some t) = true
+is_match o = is_some o

@@ -2,54 +2,59 @@
 #![tactic(auto)]
 
 ghost use Rattle.std.specs.Prelude.{◌≡◌};
-ghost use Rattle.glob.specs.Glob.{glob_of};
+ghost use Rattle.glob.specs.Glob.{glob_of, after, after_dirs, no_slash};
 ghost use Rattle.glob.specs.Verdicts.{Sound};
 
-use glob::{Front, Verdict, decided, dirs, passed, reach, settled, skip, yes};
-use text::{Found, SLASH, find_byte, from};
+use glob::{Front, Verdict, reach, skip};
+use text::{SLASH, find_byte};
 
-// How p fares against s. What follows a star is tried at one place of s after another.
+// How p fares against s.
+#[cycle(glob)]
 fn glob(p: &[u8], s: &[u8]) -> Verdict
     ensures { Sound result (glob_of p.now) s.now }
 {
-    let f = reach(p, s);
-    match f {
+    match reach(p, s) {
         Front::Known(v) => v,
-        Front::Star(k) => {
-            let rest = from(p, k + 1);
-            let left = from(s, k);
-            let mut i = 0;
-            loop {
-                i = skip(rest, left, i);
-                let v = glob(rest, from(left, i));
-                if settled(v) {
-                    return passed(s, k, v);
-                }
-                if i == left.len() {
-                    return passed(s, k, Verdict::Never);
-                }
-                if left[i] == SLASH {
-                    return passed(s, k, Verdict::Stop);
-                }
-                i += 1;
-            }
+        Front::Star(k) => after_star(&p[k + 1..], &s[k..]).passed(&s[..k]),
+        Front::Stars(k) => after_stars(&p[k + 3..], &s[k..]).passed(&s[..k]),
+    }
+}
+
+// How a star with p after it fares against s: p is tried at one place after another, up to the component's end.
+#[cycle(glob)]
+fn after_star(p: &[u8], s: &[u8]) -> Verdict
+    ensures { Sound result (after no_slash (glob_of p.now)) s.now }
+{
+    let mut left = s;
+    loop {
+        let here = &left[skip(p, left)..];
+        let v = glob(p, here);
+        if v.is_settled() {
+            return v;
         }
-        Front::Stars(k) => {
-            let rest = from(p, k + 3);
-            let left = from(s, k);
-            let mut at = 0;
-            loop {
-                let here = from(left, at);
-                let v = glob(rest, here);
-                if decided(v) {
-                    return passed(s, k, dirs(v));
-                }
-                let Found::At(j) = find_byte(here, SLASH) else {
-                    return passed(s, k, Verdict::Later);
-                };
-                at += j + 1;
-            }
+        left = match here {
+            [] => return Verdict::Never,
+            [SLASH, ..] => return Verdict::Stop,
+            [_, rest @ ..] => rest,
+        };
+    }
+}
+
+// How `**/` with p after it fares against s: p is tried at the start, and after each slash.
+#[cycle(glob)]
+fn after_stars(p: &[u8], s: &[u8]) -> Verdict
+    ensures { Sound result (after_dirs (glob_of p.now)) s.now }
+{
+    let mut here = s;
+    loop {
+        let v = glob(p, here);
+        if v.is_decided() {
+            return v.dirs();
         }
+        let Some(j) = find_byte(here, SLASH) else {
+            return Verdict::Later;
+        };
+        here = &here[j + 1..];
     }
 }
 
@@ -57,5 +62,5 @@ fn glob(p: &[u8], s: &[u8]) -> Verdict
 pub fn matches(p: &[u8], s: &[u8]) -> bool
     ensures { result ≡ glob_of p.now s.now }
 {
-    yes(glob(p, s))
+    glob(p, s).is_yes()
 }

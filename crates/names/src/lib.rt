@@ -1,8 +1,8 @@
 // The fixed names that a text is compared with, and the extensions.
 #![tactic(auto)]
 
-ghost use Rattle.std.specs.Prelude.{◌≡◌, [], ◌∷◌};
-ghost use Rattle.text.specs.Text.{prefix_of, same_text, some_of};
+ghost use Rattle.std.specs.Prelude.{◌≡◌};
+ghost use Rattle.text.specs.Text.{prefix_of, same_text};
 ghost use Rattle.names.specs.Names.{config_dir, node_modules, tsconfig_json, json, is_ts_extension, is_js_extension};
 
 use text::{same_text, starts_with};
@@ -32,30 +32,16 @@ pub fn is_json(s: &[u8]) -> bool
     same_text(s, b".json")
 }
 
-// Whether s is one of four texts.
-fn one_of(s: &[u8], a: &[u8], b: &[u8], c: &[u8], d: &[u8]) -> bool
-    ensures { result ≡ some_of (same_text s.now) (a.now ∷ b.now ∷ c.now ∷ d.now ∷ []) }
-{
-    if same_text(s, a) {
-        return true;
-    }
-    if same_text(s, b) {
-        return true;
-    }
-    if same_text(s, c) {
-        return true;
-    }
-    same_text(s, d)
-}
-
+#[tactic(auto, using(crate::proofs::Names::reads))]
 pub fn is_ts_extension(s: &[u8]) -> bool
     ensures { result ≡ is_ts_extension s.now }
 {
-    one_of(s, b"ts", b"tsx", b"mts", b"cts")
+    matches!(s, b"ts" | b"tsx" | b"mts" | b"cts")
 }
 
+#[tactic(auto, using(crate::proofs::Names::reads))]
 pub fn is_js_extension(s: &[u8]) -> bool
     ensures { result ≡ is_js_extension s.now }
 {
-    one_of(s, b"js", b"jsx", b"mjs", b"cjs")
+    matches!(s, b"js" | b"jsx" | b"mjs" | b"cjs")
 }

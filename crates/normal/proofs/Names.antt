@@ -1,15 +1,15 @@
 -- The rule of names by the three bytes behind a slash is the rule by components. Assumes nothing.
-use mathlib.Core.Path.{◌≡◌, refl, sym, ap, ◌∙◌}
+use mathlib.Core.Path.{◌≡◌, refl, sym, ap}
 use mathlib.Core.List.{List, [], ◌∷◌}
 use mathlib.Core.Bool.{Bool, true, false, not, ◌&&◌, ◌||◌, cond}
-use Prim.Native.Nat.{ℕ, zero, suc, ◌+◌, ◌≤◌, ◌<◌}
+use Prim.Native.Nat.{ℕ, suc, ◌+◌, ◌-◌, ◌≤◌, ◌<◌}
 use native.Mathlib.Numerals.{add-one}
 use native.Mathlib.Omega.{arith}
-use lib.ListN.{length, get_or, drop, length-drop, drop_of_length-le, get_or-eq_default}
-use lib.Seq.{drop-cons, get_or-drop}
+use Rattle.std.proofs.lemmas.Bool.Decides.{nat_tests}
+use lib.ListN.{length, get_or, take, drop, drop_of_length-le}
+use lib.Seq.{drop-cons}
 use lib.Dec.{eqb}
-use lib.Bits.{bit_or, bit_and}
-use borrow.Author.Tests.{eq-eqb, ne_eqb}
+use borrow.Author.Tests.{eqb-true, eqb-false}
 use Rattle.text.specs.Bytes.{Text, slash, dot}
 use Rattle.text.specs.Text.{each_of}
 use Rattle.components.specs.Components.{split, on_first, piece_of, is_name, starts}
@@ -17,9 +17,8 @@ use Rattle.path.specs.Path.{normal}
 use Rattle.components.specs.Places.{first_of}
 use Rattle.components.specs.declared.Piece.TheVariants.{Skip, Up, Name}
 use Rattle.text.proofs.Picks.{by_test}
-use Rattle.path.proofs.Normal.{normal_deep}
-use Rattle.strings.specs.Scan.{flag}
-use Rattle.strings.proofs.Gather.{Gathered, gather_step, gather_end, flag_none, or_flag, and_flag}
+use Rattle.text.proofs.Parts.{from_some}
+use Rattle.path.proofs.Normal.{normal_not, normal_root, normal_deep}
 use Rattle.normal.specs.Scan.{nameless, names_behind}
 
 -- The first piece of a text is a name, by its first three bytes
@@ -29,19 +28,14 @@ named p = is_name (piece_of p)
 
 -- the piece is `.`, or another byte
 one : (a r : Bool) → is_name (cond a Skip Name) ≡ not (a && (true || r))
-one true r = refl
-one false r = refl
+one a r = grind (arith, nat_tests)
 
 -- .. is `..`, or two bytes else
 two : (a b : Bool) → is_name (cond a (cond b Up Name) Name) ≡ not (a && (b && true))
-two true true = refl
-two true false = refl
-two false b = refl
+two a b = grind (arith, nat_tests)
 
 more : (a b : Bool) → true ≡ not (a && (b && false))
-more true true = refl
-more true false = refl
-more false b = refl
+more a b = grind (arith, nat_tests)
 
 first_named : (u : Text) → named (first_of (split u)) ≡ not (nameless (get_or u 0 slash) (get_or u 1 slash) (get_or u 2 slash))
 unfolding split on_first piece_of
@@ -102,75 +96,46 @@ unfolding names_behind starts
 behind_each [] e = let z : ◌≡◌ {A = ℕ} 0 1 = cc in absurd (omega arith)
 behind_each (x ∷ s) e = rw (e, ← first_named s, behind_others s) (sym (each_first s))
 
--- r says whether the text starts with a slash, q whether a name stands behind each
-pub normal_names : (s : Text) (r : Bool) → r ≡ starts slash s → r ≡ true → (length s ≡ 1 → ⊥) → (q : Bool) → q ≡ names_behind s → q ≡ normal s
-normal_names s r e t n q f = normal_deep s r e t n q (f ∙ behind_each s (sym e ∙ t))
+-- the rule as the code tests it
+pub normal_by : (s : Text) → normal s ≡ starts slash s && (eqb (length s) 1 || names_behind s)
+normal_by s =
+    by_test (starts slash s)
+    (λ t. by_test (eqb (length s) 1)
+    (λ l. rw (t, l) (sym (normal_root s true (sym t) refl (eqb-true (length s) 1 l))))
+    (λ n. rw (t, n) (sym (normal_deep s true (sym t) refl (eqb-false (length s) 1 n) (names_behind s) (behind_each s t)))))
+    (λ f. rw f (sym (normal_not s false (sym f) refl)))
 
 -- The loops
 
--- the rule from i on
+-- the rule from the third byte before i on
 abbrev pub behind : Text → ℕ → Bool
-behind s i = names_behind (drop i s)
+behind s i = names_behind (drop (i - 3) s)
 
--- t, u and v are what follows the first byte, the second and the third
-module _ (s t u v : Text) (d : t ≡ drop 1 s) (e : u ≡ drop 2 s) (k : v ≡ drop 3 s) (i : ℕ) where
-  pub names_first : i < length v → i < length s
-  names_first h = omega (arith, h, ap length k, length-drop 3 s)
+-- at a byte that three follow
+names_at : (s : Text) (j : ℕ) → j + 3 < length s → names_behind (drop j s) ≡ not (eqb (get_or s j 0) slash && nameless (get_or s (j + 1) 0) (get_or s (j + 2) 0) (get_or s (j + 3) 0)) && names_behind (drop (j + 1) s)
+unfolding names_behind
+names_at s j h =
+    let a : j + 2 ≡ suc (suc j) = omega arith in
+    let b : j + 3 ≡ suc (suc (suc j)) = omega arith in
+    rw (a, b, add-one, drop-cons s j 0 (omega arith), drop-cons s (suc j) 0 (omega arith), drop-cons s (suc (suc j)) 0 (omega arith), drop-cons s (suc (suc (suc j))) 0 (omega arith)) refl
 
-  pub names_second : i < length v → i < length t
-  names_second h = omega (arith, h, ap length k, length-drop 3 s, ap length d, length-drop 1 s)
+module _ (s : Text) (i : ℕ) where
+  pub behind_next : 3 ≤ i → i < length s → behind s i ≡ not (eqb (get_or s (i - 3) 0) slash && nameless (get_or s (i - 2) 0) (get_or s (i - 1) 0) (get_or s i 0)) && behind s (i + 1)
+  behind_next l h =
+      let x : i - 3 + 1 ≡ i - 2 = omega arith in
+      let y : i - 3 + 2 ≡ i - 1 = omega arith in
+      let z : i - 3 + 3 ≡ i = omega arith in
+      let n : i - 2 ≡ i + 1 - 3 = omega arith in
+      rw (← n) (rw (x, y, z) at (names_at s (i - 3) (omega arith)))
 
-  pub names_third : i < length v → i < length u
-  names_third h = omega (arith, h, ap length k, length-drop 3 s, ap length e, length-drop 2 s)
+  -- slash by slash: what is behind i is cut as the code cuts it
+  abbrev pub tail : Text
+  tail = take (length s - (i + 1)) (drop (i + 1) s)
 
-  -- the rule at i, where three bytes follow
-  pub names_at : i < length v → behind s i ≡ not (eqb (get_or s i 0) slash && nameless (get_or t i 0) (get_or u i 0) (get_or v i 0)) && behind s (i + 1)
+  pub ends_next : i < length s → names_behind (drop i s) ≡ not (eqb (get_or s i 0) slash && nameless (get_or tail 0 slash) (get_or tail 1 slash) (get_or tail 2 slash)) && names_behind (drop (i + 1) s)
   unfolding names_behind
-  names_at h =
-      let n : i + 3 < length s = omega (arith, h, ap length k, length-drop 3 s) in
-      let x : get_or t i 0 ≡ get_or s (suc i) 0 = let m : 1 + i ≡ suc i = omega arith in rw (d, get_or-drop, m) in
-      let y : get_or u i 0 ≡ get_or s (suc (suc i)) 0 = let m : 2 + i ≡ suc (suc i) = omega arith in rw (e, get_or-drop, m) in
-      let z : get_or v i 0 ≡ get_or s (suc (suc (suc i))) 0 = let m : 3 + i ≡ suc (suc (suc i)) = omega arith in rw (k, get_or-drop, m) in
-      rw (add-one, drop-cons s i 0 (omega arith), drop-cons s (suc i) 0 (omega arith), drop-cons s (suc (suc i)) 0 (omega arith), drop-cons s (suc (suc (suc i))) 0 (omega arith), x, y, z) refl
+  ends_next h = rw (from_some s (i + 1), add-one, drop-cons s i 0 h) refl
 
-  pub names_step : (bad f : ℕ) → Gathered (behind s) i bad → i < length v → eqb f 0 ≡ not (eqb (get_or s i 0) slash && nameless (get_or t i 0) (get_or u i 0) (get_or v i 0)) → Gathered (behind s) (i + 1) (bit_or bad f)
-  names_step bad f inv h g = gather_step (behind s) i bad f inv (names_at h ∙ rw g)
-
-module _ (s : Text) (i bad : ℕ) (inv : Gathered (behind s) i bad) where
-  -- the rest of the text decides
-  pub names_none : (bad ≡ 0 → ⊥) → false ≡ names_behind s
-  names_none n = sym (inv ∙ rw (ne_eqb bad 0 n))
-
-  pub names_rest : bad ≡ 0 → (r : Bool) (l : Text) → l ≡ drop i s → r ≡ names_behind l → r ≡ names_behind s
-  names_rest z r l d e = e ∙ sym (inv ∙ rw (eq-eqb bad 0 z, d))
-
-  -- byte by byte: l is what follows the byte at i, and a, b, c are its first
-  pub ends_step : (l : Text) (a b c f : ℕ) → l ≡ drop (i + 1) s → a ≡ get_or l 0 slash → b ≡ get_or l 1 slash → c ≡ get_or l 2 slash → i < length s → eqb f 0 ≡ not (eqb (get_or s i 0) slash && nameless a b c) → Gathered (behind s) (i + 1) (bit_or bad f)
+  pub ends_all : length s ≤ i → names_behind (drop i s) ≡ true
   unfolding names_behind
-  ends_step l a b c f d ea eb ec h g =
-      gather_step (behind s) i bad f inv (rw (g, ea, eb, ec, d, add-one, drop-cons s i 0 h))
-
-  -- no slash
-  pub ends_pass : i < length s → (get_or s i 0 ≡ slash → ⊥) → Gathered (behind s) (i + 1) bad
-  unfolding names_behind
-  ends_pass h n = inv ∙ rw (add-one, drop-cons s i 0 h, ne_eqb (get_or s i 0) slash n) refl
-
-  pub ends_all : length s ≤ i → eqb bad 0 ≡ names_behind s
-  unfolding names_behind
-  ends_all h = gather_end (behind s) i bad inv (rw (drop_of_length-le s h))
-
--- the byte at a place, and a slash behind the end
-
-pub byte_in : (s : Text) (k : ℕ) → k < length s → get_or s k 0 ≡ get_or s k slash
-byte_in [] k h = let z : ⊥ = omega arith in absurd z
-byte_in (x ∷ s) zero h = refl
-byte_in (x ∷ s) (suc k) h = byte_in s k (omega arith)
-
-pub byte_out : (s : Text) (k : ℕ) → length s ≤ k → slash ≡ get_or s k slash
-byte_out s k h = sym (get_or-eq_default s slash h)
-
--- the flag of four bytes
-pub name_flag : (w x y z a b c d e f : ℕ) → a ≡ flag (eqb y dot) → b ≡ flag (eqb z slash) → c ≡ flag (eqb x dot) → d ≡ flag (eqb y slash) → e ≡ flag (eqb w slash) → f ≡ flag (eqb x slash) → eqb (bit_and e (bit_or f (bit_and c (bit_or d (bit_and a b))))) 0 ≡ not (eqb w slash && nameless x y z)
-name_flag w x y z a b c d e f ha hb hc hd he hf =
-    rw (ha, hb, hc, hd, he, hf, and_flag (eqb y dot) (eqb z slash), or_flag (eqb y slash) (eqb y dot && eqb z slash), and_flag (eqb x dot) (eqb y slash || (eqb y dot && eqb z slash)), or_flag (eqb x slash) (eqb x dot && (eqb y slash || (eqb y dot && eqb z slash))), and_flag (eqb w slash) (nameless x y z))
-    (flag_none (eqb w slash && nameless x y z))
+  ends_all h = rw (drop_of_length-le s h) refl

@@ -1,92 +1,73 @@
-// Whether a path is normal. The pieces are not split: each four bytes in a row are looked at, and the verdict is gathered by an or of bytes.
+// Whether a path is normal. The pieces are not split: each four bytes in a row are looked at.
 #![tactic(auto)]
 
-ghost use Rattle.std.specs.Prelude.{◌≡◌, not, ◌&&◌, get_or, eqb};
+ghost use Rattle.std.specs.Prelude.{◌≡◌, ◌&&◌, get_or, eqb};
 ghost use Rattle.text.specs.Bytes.{slash};
 ghost use Rattle.path.specs.Path.{normal};
 ghost use Rattle.normal.specs.Scan.{nameless, names_behind};
 
 use components::is_absolute;
-use strings::same;
-use text::{DOT, SLASH, from};
+use text::{DOT, SLASH};
 
 // Below this length a path is looked at slash by slash: it is too short for a loop that works on many bytes at a time.
 const SHORT: usize = 19;
 
-// 1 where w is a slash and no name stands behind it, but nothing, `.` or `..`; x, y and z are the next bytes. Else 0.
-pub fn no_name(w: u8, x: u8, y: u8, z: u8) -> u8
-    ensures { eqb result 0 ≡ not (eqb w slash && nameless x y z) }
+// Whether w is a slash and no name stands behind it, but nothing, `.` or `..`; x, y and z are the next bytes. Each test is made, with no branch:
+// a loop over it then works on many bytes at a time.
+pub fn no_name(w: u8, x: u8, y: u8, z: u8) -> bool
+    ensures { result ≡ eqb w slash && nameless x y z }
 {
-    let two_dots = same(y, DOT) & same(z, SLASH);
-    let dots = same(x, DOT) & (same(y, SLASH) | two_dots);
-    same(w, SLASH) & (same(x, SLASH) | dots)
+    (w == SLASH) & ((x == SLASH) | (x == DOT) & ((y == SLASH) | (y == DOT) & (z == SLASH)))
 }
 
-// The byte at k, and a slash behind the end.
-fn byte_or_slash(s: &[u8], k: usize) -> u8
-    ensures { result ≡ get_or s.now k slash }
+// Whether what begins with s is nothing, `.` or `..`, up to the next slash.
+fn is_nameless(s: &[u8]) -> bool
+    ensures { result ≡ nameless (get_or s.now 0 slash) (get_or s.now 1 slash) (get_or s.now 2 slash) }
 {
-    if k < s.len() {
-        return s[k];
-    }
-    SLASH
+    matches!(
+        s,
+        [] | [SLASH, ..] | [DOT] | [DOT, SLASH, ..] | [DOT, DOT] | [DOT, DOT, SLASH, ..]
+    )
 }
 
 // Whether a name stands behind each slash of s, slash by slash: for a short path, and the few bytes at an end.
 fn ends_in_names(s: &[u8]) -> bool
     ensures { result ≡ names_behind s.now }
 {
-    let mut bad: u8 = 0;
-    let mut i = 0;
-    while i < s.len() {
-        if s[i] != SLASH {
-            i += 1;
-            continue;
+    for i in 0..s.len() {
+        if s[i] == SLASH && is_nameless(&s[i + 1..]) {
+            return false;
         }
-        let rest = from(s, i + 1);
-        bad = bad
-            | no_name(
-                s[i],
-                byte_or_slash(rest, 0),
-                byte_or_slash(rest, 1),
-                byte_or_slash(rest, 2),
-            );
-        i += 1;
     }
-    bad == 0
+    true
 }
 
-// Whether a name stands behind each slash of s: each four bytes in a row are looked at, and then the last three.
+// The same for a long path: each four bytes in a row are looked at by a loop that never leaves early, and then the last three.
+fn has_many_names(s: &[u8]) -> bool
+    ensures { result ≡ names_behind s.now }
+{
+    let mut bad = false;
+    for i in 3..s.len() {
+        bad |= no_name(s[i - 3], s[i - 2], s[i - 1], s[i]);
+    }
+    !bad && ends_in_names(&s[s.len().saturating_sub(3)..])
+}
+
+// Whether a name stands behind each slash of s.
 fn has_names(s: &[u8]) -> bool
     ensures { result ≡ names_behind s.now }
 {
-    let second = from(s, 1);
-    let third = from(s, 2);
-    let fourth = from(s, 3);
-    let mut bad: u8 = 0;
-    let mut i = 0;
-    while i < fourth.len() {
-        bad = bad | no_name(s[i], second[i], third[i], fourth[i]);
-        i += 1;
+    if s.len() < SHORT {
+        ends_in_names(s)
+    } else {
+        has_many_names(s)
     }
-    if bad != 0 {
-        return false;
-    }
-    ends_in_names(from(s, i))
 }
 
 // Whether s is a normal path: from the root, each piece a name, no final slash; or the root itself.
+#[tactic(auto, using(crate::proofs::Names::normal_by))]
 pub fn is_normal(s: &[u8]) -> bool
     ensures { result ≡ normal s.now }
 {
-    if !is_absolute(s) {
-        return false;
-    }
-    if s.len() == 1 {
-        return true;
-    }
-    if s.len() < SHORT {
-        return ends_in_names(s);
-    }
-    has_names(s)
+    is_absolute(s) && (s.len() == 1 || has_names(s))
 }

@@ -1,12 +1,12 @@
 -- Laws of normal paths. Assumes nothing.
 use mathlib.Core.Path.{◌≡◌, refl, sym, ◌∙◌}
 use mathlib.Core.List.{[], ◌∷◌}
-use mathlib.Core.Bool.{Bool, true, false}
+use mathlib.Core.Bool.{Bool, true, false, and-false}
 use native.Mathlib.Omega.{arith}
 use lib.ListN.{length, drop}
+use lib.Dec.{eqb}
 use Rattle.text.specs.Bytes.{Text, bytes, slash}
 use Rattle.text.specs.Text.{each_of, same_text}
-use Rattle.text.proofs.Scans.{same_length}
 use Rattle.text.proofs.Picks.{never}
 use Rattle.components.specs.Components.{split, piece_of, is_name, starts}
 use Rattle.path.specs.Path.{normal}
@@ -32,5 +32,10 @@ module _ (s : Text) (r : Bool) (e : r ≡ starts slash s) where
         root (x ∷ y ∷ s) l h = never (omega arith)
 
     pub normal_deep : (length s ≡ 1 → ⊥) → (q : Bool) → q ≡ each_of (λ p. is_name (piece_of p)) (split (drop 1 s)) → q ≡ normal s
-    unfolding normal
-    normal_deep n q f = rw (← e, t, ← f, same_length s (bytes "/") n)
+    unfolding normal same_text
+    normal_deep n q f = rw (← e, t, ← f, deep s n)
+      where
+        deep : (s : Text) → (length s ≡ 1 → ⊥) → same_text s (bytes "/") ≡ false
+        deep [] n = refl
+        deep (x ∷ []) n = absurd (n refl)
+        deep (x ∷ y ∷ s) n = and-false (eqb x slash)

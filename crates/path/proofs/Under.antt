@@ -1,24 +1,19 @@
 -- Laws of paths compared by components, and of what is left of one after a directory. Assumes nothing.
-use mathlib.Core.Path.{◌≡◌, refl, sym, ap, ◌∙◌}
+use mathlib.Core.Path.{◌≡◌, refl, ap}
 use mathlib.Core.List.{List, [], ◌∷◌}
-use mathlib.Core.Bool.{Bool, true, false, ◌&&◌, cond}
-use Prim.Native.Nat.{ℕ, ◌+◌, ◌-◌, ◌<◌}
+use mathlib.Core.Bool.{true, false, ◌&&◌}
+use Prim.Native.Nat.{ℕ, ◌<◌}
 use native.Mathlib.Omega.{arith}
-use lib.ListN.{length, take, drop, length-take, length-drop}
+use lib.ListN.{length, take}
 use lib.Dec.{eqb}
 use borrow.Author.Tests.{eqb-true}
 use Rattle.text.specs.Bytes.{Text, slash, dot}
-use Rattle.text.specs.Text.{between, each_of, same_text}
-use Rattle.text.specs.declared.Found.TheVariants.{At, Nothing}
-use Rattle.text.specs.declared.Part.{Part}
-use Rattle.text.specs.declared.Part.TheVariants.{Span, Missing}
+use Rattle.text.specs.Text.{each_of, same_text}
 use Rattle.text.proofs.Picks.{by_test, never, both_left, both_right}
-use Rattle.components.specs.Components.{split, piece_of, is_skip, starts, leads_dot, lead_of, names, heads, components, trim_start}
-use Rattle.components.specs.Places.{next_part}
-use Rattle.components.proofs.Components.{pieces_at, pieces_as, piece_at, LeadIs, empty, rooted, dot_only, dot_slash, plain, lead_is, lead_front, names_missing, names_next, next_as, next_is, next_missing}
+use Rattle.components.specs.Components.{split, piece_of, is_skip, starts, leads_dot, lead_of, names, heads, components}
+use Rattle.components.proofs.Components.{LeadIs, empty, rooted, dot_only, dot_slash, plain, lead_is, lead_front}
 use Rattle.ends.proofs.Ends.{lacks, split_bare}
 use Rattle.path.specs.Path.{same_list, left_of, is_some, same_path, under}
-use Rattle.path.specs.Places.{left_at}
 
 -- A name is never a lead
 
@@ -92,61 +87,6 @@ module _ (a b : Text) where
           rw (x, y, u, v, differ [] l (λ e. let n = ap length e in omega arith))
           (by_names a (λ e. rw e) (λ c cs e k h. rw (e, differ c l (λ i. w (rw (← i) k) (rw (← i) h)))))
 
--- r and q are the texts of the leads as the code cuts them
+-- m and n are the lengths of the leads, r and q their texts as the code cuts them
 pub same_lead : (a b : Text) (m n : ℕ) → m ≡ length (lead_of a) → n ≡ length (lead_of b) → (r q : Text) → r ≡ take m a → q ≡ take n b → same_text r q ≡ same_text (lead_of a) (lead_of b)
 same_lead a b m n e f r q x y = rw (x, y, e, f, lead_front a, lead_front b)
-
--- What is left, from the next component on
-
-next_left : (s : Text) (i : ℕ) (ps : List Text) (u v : ℕ) → ps ≡ pieces_at s i → Span u v ≡ next_part i ps → (c : Text) (cs : List Text) → left_at i ps (c ∷ cs) ≡ left_at u (pieces_at s u) (c ∷ cs)
-unfolding next_part left_at
-next_left s i [] u v h e c cs = let z : ◌≡◌ {A = ℕ} 0 1 = cc in never (omega arith)
-next_left s i (p ∷ ps) u v h e c cs =
-    by_test (is_skip (piece_of p))
-    (λ t. rw t (next_left s (i + length p + 1) ps u v (piece_at s i p ps h).1.1 (rw t at e) c cs))
-    (λ f. let d : Span u v ≡ Span i (i + length p) = rw f at e in let x : u ≡ i = cc in rw (x, ← h))
-
-left_none : (i : ℕ) (ps : List Text) (c : Text) (cs : List Text) → trim_start ps ≡ [] → left_at i ps (c ∷ cs) ≡ Nothing
-unfolding trim_start left_at
-left_none i [] c cs e = refl
-left_none i (p ∷ ps) c cs e =
-    by_test (is_skip (piece_of p))
-    (λ t. rw t (left_none (i + length p + 1) ps c cs (rw t at e)))
-    (λ f. let z = ap length (rw f at e) in never (omega arith))
-
--- an empty piece alone is nothing here
-module _ (s : Text) (i : ℕ) where
-  pub left_as : (cs : List Text) → left_at i (split (drop i s)) cs ≡ left_at i (pieces_at s i) cs
-  unfolding left_at piece_of
-  left_as cs = pieces_as (λ (ps : List Text). left_at i ps cs) (one cs) s i
-    where
-      one : (cs : List Text) → left_at i ([] ∷ []) cs ≡ left_at i [] cs
-      one [] = refl
-      one (c ∷ cs) = refl
-
--- Taking the components of d from j on from the front of p from i on: q is the next of d, r the next of p
-module _ (p : Text) (i : ℕ) (d : Text) (j : ℕ) (q : Part) (h : q ≡ next_part j (split (drop j d))) where
-  pub left_done : q ≡ Missing → At i ≡ left_at i (split (drop i p)) (names (split (drop j d)))
-  unfolding left_at
-  left_done m = rw (names_missing d j q h m)
-
-  module _ (a b : ℕ) (m : q ≡ Span a b) (r : Part) (k : r ≡ next_part i (split (drop i p))) where
-    pub left_short : r ≡ Missing → Nothing ≡ left_at i (split (drop i p)) (names (split (drop j d)))
-    left_short n =
-        rw (names_next d j q h a b m, left_as p i)
-        (sym (left_none i (pieces_at p i) (between a b d) (names (split (drop (b + 1) d))) (next_missing p i r k n)))
-
-    -- t and w are their texts, z whether these are the same
-    module _ (u v : ℕ) (n : r ≡ Span u v) (t : Text) (x : t ≡ between u v p) (w : Text) (y : w ≡ between a b d) (z : Bool) (g : z ≡ same_text t w) where
-      left_turn : left_at i (split (drop i p)) (names (split (drop j d))) ≡ cond z (left_at (v + 1) (split (drop (v + 1) p)) (names (split (drop (b + 1) d)))) Nothing
-      unfolding left_at
-      left_turn =
-          let e = next_is p i r k u v n in
-          let l : u + length (between u v p) ≡ v = omega (arith, length-take (v - u) (drop u p), length-drop u p, e.less, e.high) in
-          rw (names_next d j q h a b m, left_as p i, next_left p i (pieces_at p i) u v refl (sym n ∙ k ∙ next_as p i), e.pieces, e.kept, l, left_as p (v + 1), g, x, y)
-
-      pub left_other : z ≡ false → Nothing ≡ left_at i (split (drop i p)) (names (split (drop j d)))
-      left_other f = rw (left_turn, f)
-
-      pub left_on : z ≡ true → left_at (v + 1) (split (drop (v + 1) p)) (names (split (drop (b + 1) d))) ≡ left_at i (split (drop i p)) (names (split (drop j d)))
-      left_on f = rw (left_turn, f)

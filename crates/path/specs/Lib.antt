@@ -1,2 +1,2 @@
 pub mod Path
-pub mod Places
+pub mod Left

@@ -1,93 +1,61 @@
 // Whole paths by components: lies under, equality, and what is left after a directory. src/path.rs and what it needs of std's `Path` on Unix.
 #![tactic(auto)]
 
-ghost use Rattle.std.specs.Prelude.{◌≡◌, drop};
-ghost use Rattle.text.specs.Text.{same_text, part_of};
-ghost use Rattle.components.specs.Components.{split, lead_of, names};
+ghost use Rattle.std.specs.Prelude.{◌≡◌, option_copied, option_map};
+ghost use Rattle.text.specs.Text.{same_text};
+ghost use Rattle.components.specs.Components.{lead_of};
+ghost use Rattle.component_walk.specs.Walk.{pieces};
 ghost use Rattle.path.specs.Path.{same_path, under, strip_prefix};
-ghost use Rattle.path.specs.Places.{left_at, left_after};
+ghost use Rattle.path.specs.Left.{left_after};
 
-use component_walk::next_component;
+use component_walk::Components;
 use components::lead_len;
-use ends::component_end;
-use text::{Found, Part, between, same_text, upto};
+use ends::{component_end, trim_end};
+use text::upto;
 
 // Whether a and b begin with the same of `/`, `.` and neither.
 fn same_lead(a: &[u8], b: &[u8]) -> bool
     ensures { result ≡ same_text (lead_of a.now) (lead_of b.now) }
 {
-    same_text(upto(a, lead_len(a)), upto(b, lead_len(b)))
+    upto(a, lead_len(a)) == upto(b, lead_len(b))
 }
 
-// Where what is left of p from i on begins, once the components of d from j on are taken from its front.
-fn left_at(p: &[u8], i: usize, d: &[u8], j: usize) -> Found
-    ensures { result ≡ left_at i (split (drop i p.now)) (names (split (drop j d.now))) }
-{
-    let mut x = i;
-    let mut y = j;
-    loop {
-        let Part::Span(a, b) = next_component(d, y) else {
-            return Found::At(x);
-        };
-        let Part::Span(u, v) = next_component(p, x) else {
-            return Found::Nothing;
-        };
-        if !same_text(between(p, u, v), between(d, a, b)) {
-            return Found::Nothing;
-        }
-        x = v + 1;
-        y = b + 1;
-    }
-}
-
-// Where what is left of p after the directory d begins.
-fn left_after(p: &[u8], d: &[u8]) -> Found
-    ensures { result ≡ left_after p.now d.now }
+// What is left of p after the directory d, from its next component on.
+fn left_after<'a>(p: &'a [u8], d: &[u8]) -> Option<&'a [u8]>
+    ensures { option_map pieces (option_copied result) ≡ left_after p.now d.now }
 {
     if !same_lead(p, d) {
-        return Found::Nothing;
+        return None;
     }
-    left_at(p, lead_len(p), d, lead_len(d))
+    let mut left = Components::new(p);
+    for name in Components::new(d) {
+        if left.take_first()? != name {
+            return None;
+        }
+    }
+    Some(left.as_slice())
 }
 
 // Path::starts_with: whether p lies under the directory d, by components.
 pub fn lies_under(p: &[u8], d: &[u8]) -> bool
     ensures { result ≡ under p.now d.now }
 {
-    if d.len() == 0 {
-        return true;
-    }
-    match left_after(p, d) {
-        Found::At(_) => true,
-        Found::Nothing => false,
-    }
+    d.is_empty() || left_after(p, d).is_some()
 }
 
 // Whether a and b are the same path, by components.
 pub fn same_path(a: &[u8], b: &[u8]) -> bool
     ensures { result ≡ same_path a.now b.now }
 {
-    let Found::At(k) = left_after(a, b) else {
-        return false;
-    };
-    match next_component(a, k) {
-        Part::Span(_, _) => false,
-        Part::Missing => true,
-    }
+    matches!(left_after(a, b), Some([]))
 }
 
-// Path::strip_prefix: what is left of p after the directory d, as a part of p.
-pub fn strip_prefix(p: &[u8], d: &[u8]) -> Part
-    ensures { part_of p.now result ≡ strip_prefix p.now d.now }
+// Path::strip_prefix: what is left of p after the directory d.
+pub fn strip_prefix<'a>(p: &'a [u8], d: &[u8]) -> Option<&'a [u8]>
+    ensures { option_copied result ≡ strip_prefix p.now d.now }
 {
-    if d.len() == 0 {
-        return Part::Span(0, component_end(p, lead_len(p)));
+    if d.is_empty() {
+        return Some(upto(p, component_end(p, lead_len(p))));
     }
-    let Found::At(k) = left_after(p, d) else {
-        return Part::Missing;
-    };
-    let Part::Span(u, _) = next_component(p, k) else {
-        return Part::Span(0, 0);
-    };
-    Part::Span(u, component_end(p, u))
+    Some(trim_end(left_after(p, d)?))
 }

@@ -36,12 +36,12 @@ pub fn read_full<R: Read>(input: &mut R, room: &mut [u8]) -> Result<usize>
     ensures end { IfOk result (λ n. n < length room.old → IsAtEnd (R.remaining input.new)) }
 {
     let mut at = 0;
+    // Each read moves the place by as many bytes as came.
     while at < room.len() {
-        let n = input.read(&mut room[at..])?;
-        if n == 0 {
-            return Ok(at);
+        match input.read(&mut room[at..])? {
+            0 => break,
+            n => at += n,
         }
-        at += n;
     }
     Ok(at)
 }

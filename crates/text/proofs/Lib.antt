@@ -2,3 +2,4 @@
 pub mod Picks
 pub mod Scans
 pub mod Parts
+pub mod Backwards

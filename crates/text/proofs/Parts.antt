@@ -9,8 +9,7 @@ use Rattle.text.specs.Bytes.{Text}
 use Rattle.text.proofs.Picks.{by_test}
 use lib.Dec.{eqb}
 use Rattle.text.specs.Text.{find_from, find, between, before_byte, after_byte}
-use Rattle.text.specs.declared.Found.{Found}
-use Rattle.text.specs.declared.Found.TheVariants.{At, Nothing}
+use Rattle.std.specs.Prelude.{Option, Some, None}
 
 module _ (s : Text) (k : ℕ) where
   -- past the end
@@ -43,10 +42,10 @@ between_less s a e k h = let z : a + k - a ≡ k = omega arith in rw z (take-tak
 
 -- What stands before and after the first place of a byte, as a search finds it
 
-at_nothing : (j : ℕ) → At j ≡ Nothing → ⊥
+at_nothing : (j : ℕ) → Some j ≡ None → ⊥
 at_nothing j e = let z : ◌≡◌ {A = ℕ} 0 1 = cc in omega arith
 
-found_none : (b : ℕ) (s : Text) (j : ℕ) → find_from b j s ≡ Nothing → (s ≡ before_byte b s) × ([] ≡ after_byte b s)
+found_none : (b : ℕ) (s : Text) (j : ℕ) → find_from b j s ≡ None → (s ≡ before_byte b s) × ([] ≡ after_byte b s)
 unfolding find_from before_byte after_byte
 found_none b [] j e = (refl, refl)
 found_none b (x ∷ s) j e =
@@ -54,14 +53,14 @@ found_none b (x ∷ s) j e =
     (λ f. let ih = found_none b s (suc j) (rw f at e) in (rw f (ap (λ (l : Text). x ∷ l) ih.0), rw f ih.1))
 
 found_at :
-    (b : ℕ) (s : Text) (j i : ℕ) → find_from b j s ≡ At i →
+    (b : ℕ) (s : Text) (j i : ℕ) → find_from b j s ≡ Some i →
     (j ≤ i) × ((take (i - j) s ≡ before_byte b s) × (drop (suc (i - j)) s ≡ after_byte b s))
 unfolding find_from before_byte after_byte
 found_at b [] j i e = absurd (at_nothing i (sym e))
 found_at b (x ∷ s) j i e =
     by_test (eqb x b)
     (λ t.
-    let k : j ≡ i = (let y : At j ≡ At i = rw t at e in cc) in
+    let k : j ≡ i = (let y : Some j ≡ Some i = rw t at e in cc) in
     let z : i - j ≡ 0 = omega arith in
     (omega arith, (rw (t, z), rw (t, z))))
     (λ f.
@@ -69,14 +68,14 @@ found_at b (x ∷ s) j i e =
     let z : i - j ≡ suc (i - suc j) = omega (arith, ih.0) in
     (omega (arith, ih.0), (rw (f, z) (ap (λ (l : Text). x ∷ l) ih.1.0), rw (f, z) ih.1.1)))
 
-module _ (b : ℕ) (s : Text) (r : Found) (f : r ≡ find b s) where
-  pub before_all : r ≡ Nothing → s ≡ before_byte b s
+module _ (b : ℕ) (s : Text) (r : Option ℕ) (f : r ≡ find b s) where
+  pub before_all : r ≡ None → s ≡ before_byte b s
   before_all n = (found_none b s 0 (sym f ∙ n)).0
 
-  pub after_none : r ≡ Nothing → [] ≡ after_byte b s
+  pub after_none : r ≡ None → [] ≡ after_byte b s
   after_none n = (found_none b s 0 (sym f ∙ n)).1
 
-  module _ (i : ℕ) (e : r ≡ At i) where
+  module _ (i : ℕ) (e : r ≡ Some i) where
     pub before_at : take i s ≡ before_byte b s
     before_at = let z : i - 0 ≡ i = omega arith in rw z at (found_at b s 0 i (sym f ∙ e)).1.0
 

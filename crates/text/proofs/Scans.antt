@@ -1,6 +1,6 @@
 -- Laws of the tests and searches: what one step of a scan does to them. Assumes nothing.
 use mathlib.Core.Path.{◌≡◌, refl, ap, sym, subst, ◌∙◌}
-use mathlib.Core.List.{[], ◌∷◌, ◌++◌}
+use mathlib.Core.List.{List, [], ◌∷◌, ◌++◌}
 use mathlib.Core.Bool.{Bool, true, false, and-false, cond}
 use Prim.Native.Nat.{ℕ, zero, suc, ◌+◌, ◌-◌, ◌≤◌, ◌<◌}
 use native.Mathlib.Numerals.{add-one}
@@ -9,21 +9,44 @@ use native.Mathlib.Omega.{arith}
 use lib.ListN.{length, get_or, take, drop, drop_of_length-le}
 use lib.Seq.{drop-cons, take-suc, take-length, length-take-le}
 use lib.Dec.{eqb}
+use Rattle.std.proofs.lemmas.Bool.Decides.{nat_tests}
 use borrow.Author.Tests.{eq-eqb, ne_eqb}
+use Rattle.std.specs.Cmp.Lexicographic.{pointwise}
+use Rattle.std.specs.List.{position_from, list_all, list_any}
 use Rattle.text.specs.Bytes.{Text}
-use Rattle.text.specs.Text.{prefix_of, same_text, find_from, find, find_last_from, find_last}
-use Rattle.text.specs.declared.Found.{Found}
-use Rattle.text.specs.declared.Found.TheVariants.{At, Nothing}
+use Rattle.text.specs.Text.{prefix_of, same_text, some_of, each_of, find_from, find, find_last_from, find_last}
+use Rattle.std.specs.Prelude.{Option, Some, None}
 
--- A prefix
+-- As std says it
 
-pub prefix_same : (p s : Text) (i : ℕ) → i < length p → i < length s → get_or s i 0 ≡ get_or p i 0 → prefix_of (drop i p) (drop i s) ≡ prefix_of (drop (i + 1) p) (drop (i + 1) s)
+eqb_sym : (x y : ℕ) → eqb x y ≡ eqb y x
+eqb_sym x y = grind (arith, nat_tests)
+
+prefix_is : (p s : Text) → pointwise eqb p (take (length p) s) ≡ prefix_of p s
 unfolding prefix_of
-prefix_same p s i hp hs e = rw (add-one, drop-cons p i 0, drop-cons s i 0, eq-eqb _ _ e)
+prefix_is [] s = refl
+prefix_is (x ∷ p) [] = refl
+prefix_is (x ∷ p) (y ∷ s) = rw (eqb_sym x y, prefix_is p s) refl
 
-pub prefix_end : (p s : Text) (i : ℕ) → length p ≤ i → prefix_of (drop i p) (drop i s) ≡ true
-unfolding prefix_of
-prefix_end p s i hp = rw (drop_of_length-le p hp)
+pub prefix_as_std : (r : Bool) (p s : Text) → r ≡ pointwise eqb p (take (length p) s) → r ≡ prefix_of p s
+prefix_as_std r p s e = e ∙ prefix_is p s
+
+same_is : (a b : Text) → pointwise eqb a b ≡ same_text a b
+unfolding same_text
+same_is [] [] = refl
+same_is [] (y ∷ b) = refl
+same_is (x ∷ a) [] = refl
+same_is (x ∷ a) (y ∷ b) = rw (same_is a b) refl
+
+pub same_as_std : (r : Bool) (a b : Text) → r ≡ pointwise eqb a b → r ≡ same_text a b
+same_as_std r a b e = e ∙ same_is a b
+
+pub position_as_find : (b i : ℕ) (s : Text) → position_from (λ (x : ℕ). eqb x b) i s ≡ find_from b i s
+unfolding find_from
+position_as_find b i [] = refl
+position_as_find b i (x ∷ s) = rw (add-one, position_as_find b (suc i) s) refl
+
+-- Texts of other lengths
 
 pub prefix_differs : (p s : Text) (i : ℕ) → i < length p → (get_or s i 0 ≡ get_or p i 0 → ⊥) → prefix_of p s ≡ false
 unfolding prefix_of
@@ -32,27 +55,11 @@ prefix_differs (x ∷ p) [] i h e = refl
 prefix_differs (x ∷ p) (y ∷ s) zero h e = rw (ne_eqb y x e) refl
 prefix_differs (x ∷ p) (y ∷ s) (suc i) h e = rw (prefix_differs p s i (omega (arith, h)) e) (and-false (eqb y x))
 
--- one byte more, from the end on
-pub prefix_back : (p s : Text) (k i : ℕ) → i + 1 ≡ k → k ≤ length p → length p ≤ length s → get_or s i 0 ≡ get_or p i 0 → prefix_of (drop k p) (drop k s) ≡ true → prefix_of (drop i p) (drop i s) ≡ true
-prefix_back p s k i e hp hs b h = prefix_same p s i (omega (arith, e, hp)) (omega (arith, e, hp, hs)) b ∙ subst (λ (j : ℕ). prefix_of (drop j p) (drop j s) ≡ true) (sym e) h
-
-pub prefix_whole : (p s : Text) (i : ℕ) → i ≤ 0 → prefix_of (drop i p) (drop i s) ≡ true → true ≡ prefix_of p s
-prefix_whole p s i z h = let e : i ≡ 0 = omega (arith, z) in sym (subst (λ (j : ℕ). prefix_of (drop j p) (drop j s) ≡ true) e h)
-
 pub prefix_short : (p s : Text) → length s < length p → false ≡ prefix_of p s
 unfolding prefix_of
 prefix_short [] s h = let z : ⊥ = omega arith in absurd z
 prefix_short (x ∷ p) [] h = refl
 prefix_short (x ∷ p) (y ∷ s) h = sym (rw (← prefix_short p s (omega arith)) (and-false (eqb y x)))
-
--- Equality
-
-pub same_prefix : (a b : Text) → length a ≡ length b → same_text a b ≡ prefix_of b a
-unfolding same_text prefix_of
-same_prefix [] [] e = refl
-same_prefix [] (y ∷ b) e = let z : ⊥ = omega arith in absurd z
-same_prefix (x ∷ a) [] e = let z : ⊥ = omega arith in absurd z
-same_prefix (x ∷ a) (y ∷ b) e = let ih = same_prefix a b (omega arith) in cc
 
 pub same_length : (a b : Text) → (length a ≡ length b → ⊥) → same_text a b ≡ false
 unfolding same_text
@@ -61,10 +68,20 @@ same_length [] (y ∷ b) e = refl
 same_length (x ∷ a) [] e = refl
 same_length (x ∷ a) (y ∷ b) e = rw (same_length a b (omega arith)) (and-false (eqb x y))
 
+pub each_as_std : {A : Type 0} (ok : A → Bool) (xs : List A) → list_all ok xs ≡ each_of ok xs
+unfolding each_of
+each_as_std ok [] = refl
+each_as_std ok (x ∷ xs) = rw (each_as_std ok xs) refl
+
+pub some_as_std : {A : Type 0} (ok : A → Bool) (xs : List A) → list_any ok xs ≡ some_of ok xs
+unfolding some_of
+some_as_std ok [] = refl
+some_as_std ok (x ∷ xs) = rw (some_as_std ok xs) refl
+
 -- The first place of a byte
 
 module _ (b : ℕ) (s : Text) (i : ℕ) where
-  pub find_here : i < length s → get_or s i 0 ≡ b → find_from b i (drop i s) ≡ At i
+  pub find_here : i < length s → get_or s i 0 ≡ b → find_from b i (drop i s) ≡ Some i
   unfolding find_from
   find_here h e = rw (drop-cons s i 0, eq-eqb _ _ e)
 
@@ -72,29 +89,29 @@ module _ (b : ℕ) (s : Text) (i : ℕ) where
   unfolding find_from
   find_on h e = rw (add-one, drop-cons s i 0, ne_eqb _ _ e)
 
-  pub find_end : length s ≤ i → find_from b i (drop i s) ≡ Nothing
+  pub find_end : length s ≤ i → find_from b i (drop i s) ≡ None
   unfolding find_from
   find_end h = rw (drop_of_length-le s h)
 
 -- The last
 
-last_more : (b : ℕ) (f : Found) (i : ℕ) (s : Text) (x : ℕ) → find_last_from b f i (s ++ (x ∷ [])) ≡ cond (eqb x b) (At (i + length s)) (find_last_from b f i s)
+pub last_more : (b : ℕ) (f : Option ℕ) (i : ℕ) (s : Text) (x : ℕ) → find_last_from b f i (s ++ (x ∷ [])) ≡ cond (eqb x b) (Some (i + length s)) (find_last_from b f i s)
 unfolding find_last_from
 last_more b f i [] x = rw add-zero
-last_more b f i (y ∷ s) x = last_more b (cond (eqb y b) (At i) f) (suc i) s x ∙ rw (add-suc, suc-add)
+last_more b f i (y ∷ s) x = last_more b (cond (eqb y b) (Some i) f) (suc i) s x ∙ rw (add-suc, suc-add)
 
-last_suc : (b : ℕ) (s : Text) (i : ℕ) → i < length s → find_last b (take (suc i) s) ≡ cond (eqb (get_or s i 0) b) (At i) (find_last b (take i s))
+last_suc : (b : ℕ) (s : Text) (i : ℕ) → i < length s → find_last b (take (suc i) s) ≡ cond (eqb (get_or s i 0) b) (Some i) (find_last b (take i s))
 last_suc b s i h =
     let e : 0 + length (take i s) ≡ i = omega (arith, length-take-le i s (omega arith)) in
-    rw (take-suc s i 0 h) (last_more b Nothing 0 (take i s) (get_or s i 0) ∙ ap (λ (n : ℕ). cond (eqb (get_or s i 0) b) (At n) (find_last b (take i s))) e)
+    rw (take-suc s i 0 h) (last_more b None 0 (take i s) (get_or s i 0) ∙ ap (λ (n : ℕ). cond (eqb (get_or s i 0) b) (Some n) (find_last b (take i s))) e)
 
 -- a scan from the end, whose next place is i - 1
 module _ (b : ℕ) (s : Text) (i : ℕ) (some : 0 < i) (h : i ≤ length s) where
-  last_before : find_last b (take i s) ≡ cond (eqb (get_or s (i - 1) 0) b) (At (i - 1)) (find_last b (take (i - 1) s))
+  last_before : find_last b (take i s) ≡ cond (eqb (get_or s (i - 1) 0) b) (Some (i - 1)) (find_last b (take (i - 1) s))
   last_before = let z : suc (i - 1) ≡ i = omega arith in rw z at (last_suc b s (i - 1) (omega arith))
 
   module _ (inv : find_last b (take i s) ≡ find_last b s) where
-    pub last_here : get_or s (i - 1) 0 ≡ b → At (i - 1) ≡ find_last b s
+    pub last_here : get_or s (i - 1) 0 ≡ b → Some (i - 1) ≡ find_last b s
     last_here e = sym (rw (eq-eqb _ _ e) at last_before) ∙ inv
 
     pub last_on : (get_or s (i - 1) 0 ≡ b → ⊥) → find_last b (take (i - 1) s) ≡ find_last b s
@@ -103,20 +120,20 @@ module _ (b : ℕ) (s : Text) (i : ℕ) (some : 0 < i) (h : i ≤ length s) wher
 pub last_start : (b : ℕ) (s : Text) → find_last b (take (length s) s) ≡ find_last b s
 last_start b s = ap (find_last b) (take-length s)
 
-pub last_none : (b : ℕ) (s : Text) (i : ℕ) → i ≤ 0 → find_last b (take i s) ≡ find_last b s → Nothing ≡ find_last b s
+pub last_none : (b : ℕ) (s : Text) (i : ℕ) → i ≤ 0 → find_last b (take i s) ≡ find_last b s → None ≡ find_last b s
 unfolding find_last_from
 last_none b s i h e = let z : i ≡ 0 = omega arith in (rw z at e)
 
 -- What a search that found a byte says: it is within the text, the byte stands there, and before it, or after it, the byte does not stand
 
-find_in : (b : ℕ) (s : Text) (j i : ℕ) → find_from b j s ≡ At i → (j ≤ i) × (i < j + length s)
+find_in : (b : ℕ) (s : Text) (j i : ℕ) → find_from b j s ≡ Some i → (j ≤ i) × (i < j + length s)
 unfolding find_from
 find_in b [] j i e = let z : ◌≡◌ {A = ℕ} 0 1 = cc in let w : ⊥ = omega arith in absurd w
 find_in b (x ∷ s) j i e = go (eqb x b) (find_in b s (suc j) i) e
   where
-    go : (t : Bool) → (find_from b (suc j) s ≡ At i → (suc j ≤ i) × (i < suc j + length s)) → cond t (At j) (find_from b (suc j) s) ≡ At i → (j ≤ i) × (i < j + suc (length s))
+    go : (t : Bool) → (find_from b (suc j) s ≡ Some i → (suc j ≤ i) × (i < suc j + length s)) → cond t (Some j) (find_from b (suc j) s) ≡ Some i → (j ≤ i) × (i < j + suc (length s))
     go true ih e = let k : j ≡ i = cc in omega arith
     go false ih e = let h : (suc j ≤ i) × (i < suc j + length s) = ih e in omega arith
 
-pub find_within : (b : ℕ) (s : Text) (i : ℕ) → At i ≡ find b s → i < length s
+pub find_within : (b : ℕ) (s : Text) (i : ℕ) → Some i ≡ find b s → i < length s
 find_within b s i e = let h : (0 ≤ i) × (i < 0 + length s) = find_in b s 0 i (sym e) in omega arith

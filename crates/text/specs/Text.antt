@@ -1,11 +1,7 @@
 -- Tests on byte strings, searches and parts.
 use Rattle.std.specs.Prelude.{ℕ, suc, ◌-◌, List, [], ◌∷◌, Bool, true, false, ◌&&◌, ◌||◌, cond, eqb, take, drop}
-use Rattle.std.proofs.Math.Option.{Option, some, none}
+use Rattle.std.specs.Prelude.{Option, Some, None}
 use Rattle.text.specs.Bytes.{Text, star}
-use Rattle.text.specs.declared.Found.{Found}
-use Rattle.text.specs.declared.Found.TheVariants.{At, Nothing}
-use Rattle.text.specs.declared.Part.{Part}
-use Rattle.text.specs.declared.Part.TheVariants.{Span, Missing}
 
 -- p is a prefix of s
 unfoldable pub prefix_of : Text → Text → Bool
@@ -31,35 +27,30 @@ each_of ok [] = true
 each_of ok (x ∷ xs) = ok x && each_of ok xs
 
 -- where a byte first stands in a text whose first byte is at i
-unfoldable pub find_from : ℕ → ℕ → Text → Found
-find_from b i [] = Nothing
-find_from b i (x ∷ s) = cond (eqb x b) (At i) (find_from b (suc i) s)
+unfoldable pub find_from : ℕ → ℕ → Text → Option ℕ
+find_from b i [] = None
+find_from b i (x ∷ s) = cond (eqb x b) (Some i) (find_from b (suc i) s)
 
 -- where a byte first stands
-abbrev pub find : ℕ → Text → Found
+abbrev pub find : ℕ → Text → Option ℕ
 find b s = find_from b 0 s
 
 -- "the first star divides": where it stands
-abbrev pub star_of : Text → Found
+abbrev pub star_of : Text → Option ℕ
 star_of s = find star s
 
 -- where a byte last stands in a text whose first byte is at i; before is the answer for what stands before i
-unfoldable pub find_last_from : ℕ → Found → ℕ → Text → Found
+unfoldable pub find_last_from : ℕ → Option ℕ → ℕ → Text → Option ℕ
 find_last_from b before i [] = before
-find_last_from b before i (x ∷ s) = find_last_from b (cond (eqb x b) (At i) before) (suc i) s
+find_last_from b before i (x ∷ s) = find_last_from b (cond (eqb x b) (Some i) before) (suc i) s
 
 -- where a byte last stands
-abbrev pub find_last : ℕ → Text → Found
-find_last b s = find_last_from b Nothing 0 s
+abbrev pub find_last : ℕ → Text → Option ℕ
+find_last b s = find_last_from b None 0 s
 
 -- the bytes of s from a up to e
 abbrev pub between : ℕ → ℕ → Text → Text
 between a e s = take (e - a) (drop a s)
-
--- the text that a part of s is
-abbrev pub part_of : Text → Part → Option Text
-part_of s (Span a e) = some (between a e s)
-part_of s Missing = none
 
 -- what stands before the first b, all of it where there is none
 unfoldable pub before_byte : ℕ → Text → Text

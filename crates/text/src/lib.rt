@@ -12,77 +12,36 @@ pub const STAR: u8 = b'*';
 
 pub const QUESTION: u8 = b'?';
 
-// Where a byte stands in a text.
-#[derive(Clone, Copy)]
-pub enum Found {
-    At(usize),
-    Nothing,
-}
-
-// A part of a text: the bytes from the first place up to the second.
-#[derive(Clone, Copy)]
-pub enum Part {
-    Span(usize, usize),
-    Missing,
-}
-
 // Whether p is a prefix of s. The last byte is looked at first: paths mostly begin alike.
 pub fn starts_with(s: &[u8], p: &[u8]) -> bool
     ensures { result ≡ prefix_of p.now s.now }
 {
-    if s.len() < p.len() {
-        return false;
-    }
-    let mut i = p.len();
-    while 0 < i {
-        i -= 1;
-        if s[i] != p[i] {
-            return false;
-        }
-    }
-    true
+    s.starts_with(p)
 }
 
 // Whether a and b are the same bytes. Texts of different length are not compared.
 pub fn same_text(a: &[u8], b: &[u8]) -> bool
     ensures { result ≡ same_text a.now b.now }
 {
-    if a.len() != b.len() {
-        return false;
-    }
-    starts_with(a, b)
+    a == b
 }
 
 // Where b first stands in s.
-pub fn find_byte(s: &[u8], b: u8) -> Found
+pub fn find_byte(s: &[u8], b: u8) -> Option<usize>
     ensures { result ≡ find b s.now }
 {
-    let mut i = 0;
-    while i < s.len() {
-        if s[i] == b {
-            return Found::At(i);
-        }
-        i += 1;
-    }
-    Found::Nothing
+    s.iter().position(|x| *x == b)
 }
 
 // Where b last stands in s, looked for from the end.
-pub fn find_last(s: &[u8], b: u8) -> Found
+pub fn find_last(s: &[u8], b: u8) -> Option<usize>
     ensures { result ≡ find_last b s.now }
 {
-    let mut i = s.len();
-    while 0 < i {
-        i -= 1;
-        if s[i] == b {
-            return Found::At(i);
-        }
-    }
-    Found::Nothing
+    s.iter().rposition(|x| *x == b)
 }
 
 // Where the first star of s stands.
-pub fn find_star(s: &[u8]) -> Found
+pub fn find_star(s: &[u8]) -> Option<usize>
     ensures { result ≡ star_of s.now }
 {
     find_byte(s, STAR)
@@ -122,7 +81,7 @@ pub fn between(s: &[u8], a: usize, e: usize) -> &[u8]
 pub fn part_before(s: &[u8], b: u8) -> &[u8]
     ensures { result.now ≡ before_byte b s.now }
 {
-    let Found::At(i) = find_byte(s, b) else {
+    let Some(i) = find_byte(s, b) else {
         return s;
     };
     upto(s, i)
@@ -132,7 +91,7 @@ pub fn part_before(s: &[u8], b: u8) -> &[u8]
 pub fn part_after(s: &[u8], b: u8) -> &[u8]
     ensures { result.now ≡ after_byte b s.now }
 {
-    let Found::At(i) = find_byte(s, b) else {
+    let Some(i) = find_byte(s, b) else {
         return upto(s, 0);
     };
     from(s, i + 1)

@@ -1,16 +1,11 @@
-use mathlib.Core.Path.{refl, sym, ◌∙◌}
-use native.Mathlib.Omega.{arith}
-use Rattle.asked.proofs.Filled.{kept_on, kept_not, kept_end}
+use Rattle.std.proofs.Common.{ℕ, ◌∙◌, eqb, rules, tests}
+use Rattle.std.proofs.lemmas.Iterator.{YieldsList-from_slice}
+use Rattle.std.proofs.lemmas.Iterator.Search.{all_from_yields_List}
+use Rattle.asked.specs.Asked.{pattern}
+use Rattle.asked.proofs.Filled.{all_kept}
 use Rattle.asked.proofs.is_kept.Goals as goal
 
-pub loop-i-init : goal.loop-i-init
-loop-i-init c = (omega arith, refl)
-
-pub returns-then-s-i : goal.returns-then-s-i
-returns-then-s-i c = kept_not 165 _ _ c.loop-i-test.true c.if-s-i.true ∙ c.loop-i.invariant.1
-
-pub loop-i-preserved : goal.loop-i-preserved
-loop-i-preserved c = (omega arith, sym (kept_on 165 _ _ c.loop-i-test.true c.if-s-i.false) ∙ c.loop-i.invariant.1)
-
 pub returns : goal.returns
-returns c = kept_end 165 _ _ c.loop-i-test.false ∙ c.loop-i.invariant.1
+returns c =
+    let s = c.args.s.now in
+    all_from_yields_List (λ (x : ℕ). eqb x pattern) _ _ _ c.all.ensures.ran (YieldsList-from_slice s cc) (λ x b q k. search (rules, tests)) ∙ all_kept pattern s

@@ -1,21 +1,22 @@
-use Rattle.components.proofs.Components.{next_is, count_start, count_end, count_on, count_less}
+use mathlib.Core.Logic.{inl}
+use mathlib.Core.Path.{refl, ap}
+use lib.ListN.{length}
+use Rattle.std.proofs.lemmas.Iterator.Consumers.{YieldsList-from_first, count_from_yields_List}
+use Rattle.component_walk.specs.declared.Components.{Components}
+use Rattle.components.specs.Components.{split, names}
+use Rattle.component_walk.proofs.Walk.{names_le, lead_small, counted}
 use native.Mathlib.Omega.{arith}
 use Rattle.component_walk.proofs.count_components.Goals as goal
 
-pub loop-e-init : goal.loop-e-init
-loop-e-init c = count_start _ _ c.lead_len-n.ensures
+pub count-requires-clause-fits : goal.count-requires-clause-fits
+count-requires-clause-fits c = inl (omega (arith, names_le c.new.result.rest.now, ap length c.new.ensures))
 
-pub returns-in_default : goal.returns-in_default
-returns-in_default c = count_end _ _ _ c.loop-e.invariant _ c.next_component.ensures c.in_default.is
+pub overflow_add-result : goal.overflow_add-result
+overflow_add-result c =
+    omega (arith, c.count.ensures.bound, names_le c.new.result.rest.now, ap length c.new.ensures, c.lead_len.ensures, lead_small c.args.s.now)
 
-pub overflow_add-n : goal.overflow_add-n
-overflow_add-n c = let a = c.args in let l = c.loop-e in let x = next_is a.s.now l.at _ c.next_component.ensures _ _ c.in-Span.is in omega (arith, l.invariant.few, x.low, x.less, x.high)
-
-pub overflow_add-at : goal.overflow_add-at
-overflow_add-at c = let a = c.args in let l = c.loop-e in let x = next_is a.s.now l.at _ c.next_component.ensures _ _ c.in-Span.is in omega (arith, x.high)
-
-pub loop-e-smaller : goal.loop-e-smaller
-loop-e-smaller c = count_less _ _ _ c.loop-e.invariant _ c.next_component.ensures _ _ c.in-Span.is
-
-pub loop-e-preserved : goal.loop-e-preserved
-loop-e-preserved c = count_on _ _ _ c.loop-e.invariant _ c.next_component.ensures _ _ c.in-Span.is
+pub returns : goal.returns
+returns c =
+    let n = count_from_yields_List _ _ c.count.ensures.ran (YieldsList-from_first (λ x. x.now) (λ (s : Components). names (split s.rest.now)) _ refl) in
+    let e = ap (λ s. length (names (split s))) c.new.ensures in
+    omega (arith, n, e, c.lead_len.ensures, counted c.args.s.now)

@@ -1,11 +1,11 @@
-use Rattle.components.proofs.Components.{lead_slash, lead_dot, lead_none}
+use mathlib.Core.Path.{sym, ap, ◌∙◌}
+use mir.Val.{bool_byte}
+use Rattle.components.proofs.Components.{lead_rooted, lead_other}
+use Rattle.components.proofs.lead_len.Goals.{then-is_absolute, else-is_absolute}
 use Rattle.components.proofs.lead_len.Goals as goal
 
-pub returns-then-is_absolute : goal.returns-then-is_absolute
-returns-then-is_absolute c = lead_slash _ _ c.is_absolute.ensures c.if-is_absolute.true
-
-pub returns-then-leads_dot : goal.returns-then-leads_dot
-returns-then-leads_dot c = lead_dot _ _ c.is_absolute.ensures c.if-is_absolute.false _ c.leads_dot.ensures c.if-leads_dot.true
-
 pub returns : goal.returns
-returns c = lead_none _ _ c.is_absolute.ensures c.if-is_absolute.false _ c.leads_dot.ensures c.if-leads_dot.false
+returns c = elim c.if-is_absolute.branch [
+  | then-is_absolute w ↦ c.from.ensures ∙ ap bool_byte (w.from-is ∙ w.if-is_absolute.true) ∙ sym (lead_rooted _ (sym w.if-is_absolute.true ∙ c.is_absolute.ensures))
+  | else-is_absolute w ↦ c.from.ensures ∙ ap bool_byte w.from-is ∙ sym (lead_other _ _ (sym w.if-is_absolute.false ∙ c.is_absolute.ensures) w.leads_dot.ensures)
+]

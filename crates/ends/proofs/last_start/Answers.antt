@@ -6,7 +6,7 @@ pub returns-in_default : goal.returns-in_default
 returns-in_default c = start_none _ _ c.find_last.ensures c.in_default.is
 
 pub overflow_add-result : goal.overflow_add-result
-overflow_add-result c = let s = c.args.s.now in omega (arith, start_within s _ c.find_last.ensures _ c.in-At.is)
+overflow_add-result c = let s = c.args.s.now in omega (arith, start_within s _ c.find_last.ensures _ c.in-Some.is)
 
 pub returns : goal.returns
-returns c = start_some _ _ c.find_last.ensures _ c.in-At.is
+returns c = start_some _ _ c.find_last.ensures _ c.in-Some.is

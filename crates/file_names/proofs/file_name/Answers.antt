@@ -1,8 +1,8 @@
-use Rattle.ends.proofs.Names.{file_none, file_some}
+use mathlib.Core.Path.{ap, ◌∙◌}
+use Rattle.std.specs.Prelude.{option_copied}
+use Rattle.ends.specs.Ends.{last_piece}
+use Rattle.ends.proofs.Names.{named}
 use Rattle.file_names.proofs.file_name.Goals as goal
 
-pub returns-then-not-is_name : goal.returns-then-not-is_name
-returns-then-not-is_name c = file_none _ _ c.component_end-e.ensures _ c.upto.ensures _ c.last_start-a.ensures _ c.between.ensures _ c.is_name.ensures c.if-not-is_name.true
-
 pub returns : goal.returns
-returns c = file_some _ _ c.component_end-e.ensures _ c.upto.ensures _ c.last_start-a.ensures _ c.between.ensures _ c.is_name.ensures c.if-not-is_name.false
+returns c = ap option_copied c.then_some.ensures ∙ named c.args.s.now _ (c.last_piece-name.ensures ∙ ap last_piece c.trim_end.ensures) _ c.is_name.ensures

@@ -1,17 +1,24 @@
-use Rattle.join.proofs.Buffer.{room_slash, room_after, emits_after, room_bare, emits_bare}
+use Rattle.emit.proofs.Outputs.{puts_room, puts_both}
+use Rattle.join.specs.Join.{slash_if}
+use Rattle.join.proofs.Buffer.{room_slash, slash_put, slash_left}
+use Rattle.join.proofs.put_joined.Goals.{then-apart, else-apart}
 use Rattle.join.proofs.put_joined.Goals as goal
 
-pub put-k-requires : goal.put-k-requires
-put-k-requires c = room_slash _ _ _ c.requires c.if-apart.true
+pub put-requires : goal.put-requires
+put-requires c = room_slash c.args.apart c.args.s.now _ c.requires c.if-apart.true
 
 pub put_text-requires : goal.put_text-requires
-put_text-requires c = room_after _ _ _ c.requires c.if-apart.true _ _ _ c.put-k.ensures
-
-pub returns-then-apart : goal.returns-then-apart
-returns-then-apart c = emits_after _ _ _ c.requires c.if-apart.true _ _ _ c.put-k.ensures _ _ c.put_text.ensures
-
-pub put_text-requires-2 : goal.put_text-requires-2
-put_text-requires-2 c = room_bare _ _ _ c.requires c.if-apart.false
+put_text-requires c =
+    let s = c.args.s.now in
+    elim c.if-apart.branch [
+      | then-apart w ↦ puts_room (slash_if c.args.apart) s c.args.out.now c.if-apart.out (slash_put c.args.apart s c.args.out.now c.if-apart.out w.if-apart.true (rw w.out-is w.put.ensures)) c.requires
+      | else-apart w ↦ puts_room (slash_if c.args.apart) s c.args.out.now c.if-apart.out (slash_left c.args.apart s c.args.out.now c.if-apart.out w.if-apart.false w.out-is) c.requires
+    ]
 
 pub returns : goal.returns
-returns c = emits_bare _ _ _ c.requires c.if-apart.false _ _ _ c.put_text-2.ensures
+returns c =
+    let s = c.args.s.now in
+    elim c.if-apart.branch [
+      | then-apart w ↦ puts_both (slash_if c.args.apart) s c.args.out.now c.if-apart.out c.put_text.new.self (slash_put c.args.apart s c.args.out.now c.if-apart.out w.if-apart.true (rw w.out-is w.put.ensures)) c.put_text.ensures
+      | else-apart w ↦ puts_both (slash_if c.args.apart) s c.args.out.now c.if-apart.out c.put_text.new.self (slash_left c.args.apart s c.args.out.now c.if-apart.out w.if-apart.false w.out-is) c.put_text.ensures
+    ]

@@ -1,11 +1,6 @@
-use Prim.Native.Nat.{◌-◌, ◌≤◌}
-use lib.ListN.{length}
-use Rattle.strings.proofs.Gather.{Gathered}
-use Rattle.normal.proofs.Names.{behind}
+use Rattle.std.proofs.Common.{◌≡◌, drop}
+use Rattle.normal.specs.Scan.{names_behind}
 use Rattle.normal.proofs.ends_in_names.Given as goal
 
 abbrev pub invariant-loop-i : goal.invariant-loop-i
-invariant-loop-i l = (l.i ≤ length l.s) × Gathered (behind l.s) l.i l.bad
-
-abbrev pub decreases-loop-i : goal.decreases-loop-i
-decreases-loop-i l = length l.s - l.i
+invariant-loop-i l = names_behind (drop l.i l.s) ≡ names_behind l.s

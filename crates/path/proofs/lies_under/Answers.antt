@@ -1,11 +1,10 @@
-use Rattle.path.proofs.Strip.{under_none, under_found, under_nothing}
+use mathlib.Core.Path.{◌∙◌}
+use Rattle.path.proofs.Strip.{some_copied, under_none, under_found}
+use borrow.Author.Rules.{rules}
 use Rattle.path.proofs.lies_under.Goals as goal
 
-pub returns-then-d-eq0 : goal.returns-then-d-eq0
-returns-then-d-eq0 c = under_none _ _ c.if-d-eq0.true
+pub returns-then-is_empty : goal.returns-then-is_empty
+returns-then-is_empty c = c.if-is_empty.true ∙ under_none c.args.p.now c.args.d.now (search rules)
 
-pub returns-in-At : goal.returns-in-At
-returns-in-At c = under_found _ _ _ c.left_after.ensures _ c.in-At.is c.if-d-eq0.false
-
-pub returns-in-Nothing : goal.returns-in-Nothing
-returns-in-Nothing c = under_nothing _ _ _ c.left_after.ensures c.if-d-eq0.false c.in-Nothing.is
+pub returns-else-is_empty : goal.returns-else-is_empty
+returns-else-is_empty c = c.is_some.ensures ∙ some_copied c.left_after.result ∙ under_found _ _ _ c.left_after.ensures (search rules)

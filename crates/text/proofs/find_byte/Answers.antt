@@ -1,19 +1,12 @@
-use mathlib.Core.Path.{sym, ◌∙◌}
-use Rattle.text.proofs.Scans.{find_here, find_on, find_end}
-use borrow.Author.Rules.{rules}
+use Rattle.std.proofs.Common.{ℕ, ◌∙◌, eqb, rules, tests}
+use Rattle.std.proofs.lemmas.Iterator.{YieldsList-from_slice}
+use Rattle.std.proofs.lemmas.Iterator.Search.{position_from_yields_List}
+use Rattle.std.proofs.lemmas.Iterator.Adapters.{position_from-zero}
+use Rattle.text.proofs.Scans.{position_as_find}
 use Rattle.text.proofs.find_byte.Goals as goal
 
-pub returns-then-s-i : goal.returns-then-s-i
-returns-then-s-i c = let a = c.args in
-    let l = c.loop-i in
-    sym (find_here a.b a.s.now l.i c.loop-i-test.true c.if-s-i.true) ∙ l.invariant.1
-
-pub loop-i-preserved : goal.loop-i-preserved
-loop-i-preserved c = let a = c.args in
-    let l = c.loop-i in
-    (search rules, sym (find_on a.b a.s.now l.i c.loop-i-test.true c.if-s-i.false) ∙ l.invariant.1)
-
 pub returns : goal.returns
-returns c = let a = c.args in
-    let l = c.loop-i in
-    sym (find_end a.b a.s.now l.i c.loop-i-test.false) ∙ l.invariant.1
+returns c =
+    let s = c.args.s.now in
+    let test = λ (x : ℕ). eqb x c.args.b in
+    position_from_yields_List test _ _ _ c.position.ensures.ran (YieldsList-from_slice s cc) (λ x b q k. search (rules, tests)) ∙ (position_from-zero test s ∙ position_as_find c.args.b 0 s)

@@ -8,7 +8,7 @@ pub returns-in_default : goal.returns-in_default
 returns-in_default c = let a = c.args in c.upto.ensures ∙ after_none a.b a.s.now _ c.find_byte.ensures c.in_default.is
 
 pub overflow_add-i : goal.overflow_add-i
-overflow_add-i c = let a = c.args in omega (arith, find_within a.b a.s.now _ (sym c.in-At.is ∙ c.find_byte.ensures))
+overflow_add-i c = let a = c.args in omega (arith, find_within a.b a.s.now _ (sym c.in-Some.is ∙ c.find_byte.ensures))
 
 pub returns : goal.returns
-returns c = let a = c.args in c.from.ensures ∙ after_at a.b a.s.now _ c.find_byte.ensures _ c.in-At.is
+returns c = let a = c.args in c.from.ensures ∙ after_at a.b a.s.now _ c.find_byte.ensures _ c.in-Some.is

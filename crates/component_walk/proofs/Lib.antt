@@ -1,0 +1,2 @@
+-- Laws of the walk over components.
+pub mod Walk
