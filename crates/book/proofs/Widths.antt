@@ -1,5 +1,5 @@
 -- The table of widths as the arms of a match. Assumes nothing.
-use mathlib.Core.Path.{◌≡◌, refl, sym, subst}
+use mathlib.Core.Path.{◌≡◌, refl, sym, ap, subst}
 use mathlib.Core.List.{List, [], ◌∷◌}
 use mathlib.Core.Bool.{Bool, true, false, not, ◌||◌}
 use Prim.Native.Nat.{ℕ, ◌≤◌, ◌<◌}
@@ -8,7 +8,9 @@ use lib.Dec.{T, eqb, ltb}
 use types.Run.{OneOf}
 use borrow.Author.Tests.{eqb-true, ltb-true, lt-ltb, le-ltb, not-true}
 use Rattle.text.proofs.Picks.{by_test}
+use Rattle.std.specs.Prelude.{Some, None}
 use Rattle.book.specs.Command.{widths, width_of}
+use Rattle.book.specs.Steps.{width_told}
 use Rattle.book.proofs.Table.{every, spare, past, at_each, at_keys, T_true}
 
 -- the commands without operands
@@ -29,6 +31,13 @@ width_rest x a b c e =
     (past bare (spare (18 ∷ []) (spare (19 ∷ []) (λ i. eqb (width_of i) 4 || eqb 9 (width_of i)))) x a
     (at_each (λ i y. spare bare (spare (18 ∷ []) (spare (19 ∷ []) (λ i. eqb (width_of i) 4 || eqb 9 (width_of i)))) i) widths tt x (ltb-true x 21 y))))))))
     (λ y. rw y refl)
+
+-- a width as it is told
+pub told_keys : (w : ℕ) (ks : List ℕ) → T (every (λ i k. eqb w (width_of k)) 0 ks) → (x : ℕ) → OneOf ks x → eqb w 9 ≡ false → Some w ≡ width_told (width_of x)
+told_keys w ks t x h n = rw (← width_keys w ks t x h, n) refl
+
+pub told_rest : (x : ℕ) → (OneOf bare x → ⊥) → (OneOf (18 ∷ []) x → ⊥) → (OneOf (19 ∷ []) x → ⊥) → eqb (width_of x) 4 ≡ false → None ≡ width_told (width_of x)
+told_rest x a b c e = ap width_told (width_rest x a b c e)
 
 -- a command's operands are a string alone, or not: at the keys 1, 3 and 5, below 7, within bounds, and from 18 on
 module _ (x : ℕ) where

@@ -1,5 +1,5 @@
 -- What a step answers: a refusal, by its number and place, or what it gives. Steps are put together by `do`.
-use Rattle.std.proofs.Math.Option.{Option, some, none}
+use Rattle.std.specs.Prelude.{Option, Some, None}
 use Rattle.std.specs.Prelude.{ℕ}
 
 -- "A refusal is its number and a place"
@@ -16,5 +16,5 @@ module _ {A : Type 0} where
 
   -- the refusal at the place, if there is one, else what comes next, which is handed s
   abbrev pub unless : {S : Type 0} → Option ℕ → ℕ → (S → Answer A) → S → Answer A
-  unless (some n) p k s = refused n p
-  unless none p k s = k s
+  unless (Some n) p k s = refused n p
+  unless None p k s = k s

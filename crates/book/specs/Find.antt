@@ -1,6 +1,6 @@
 -- Finding a config by path among the paths of a book's records: `get_tsconfig`.
 use Rattle.std.specs.Prelude.{ℕ, suc, List, [], ◌∷◌, ◌++◌, Bool, cond, ◌&&◌}
-use Rattle.std.proofs.Math.Option.{Option, some, none, map}
+use Rattle.std.specs.Prelude.{Option, Some, None, option_map}
 use Rattle.text.specs.Bytes.{Text, slash}
 use Rattle.names.specs.Names.{tsconfig_json, json}
 use Rattle.text.specs.Text.{prefix_of, same_text, some_of}
@@ -10,10 +10,10 @@ use Rattle.join.specs.Join.{push_of}
 
 -- the number of the record with the path: "Record numbers run from 0."
 unfoldable pub find : Text → List Text → Option ℕ
-find p [] = none
-find p (q ∷ qs) = cond (same_text p q) (some 0) (map suc (find p qs))
+find p [] = None
+find p (q ∷ qs) = cond (same_text p q) (Some 0) (option_map suc (find p qs))
 
--- "A directory is a proper ancestor of a record's path." The empty path is none, as in the crate's file system; no answer hangs on it.
+-- "A directory is a proper ancestor of a record's path." The empty path is None, as in the crate's file system; no answer hangs on it.
 unfoldable pub is_dir : List Text → Text → Bool
 is_dir paths p = starts slash p && some_of (prefix_of (push_of p [])) paths
 

@@ -2,9 +2,10 @@
 use Rattle.std.specs.Prelude.{ℕ, ◌+◌, ◌≤◌, ◌<◌, List, [], ◌∷◌, ◌≡◌, cond, length, get_or, take, drop, eqb}
 use Rattle.text.specs.Bytes.{Text}
 use Rattle.book.specs.declared.Cmd.{Cmd}
-use Rattle.book.specs.declared.Judged.{Judged}
-use Rattle.book.specs.declared.Judged.TheVariants.{No, Yes}
-use Rattle.book.specs.Answer.{refused, given}
+use Rattle.std.specs.Prelude.{Result, Ok, Err}
+use Rattle.book.specs.declared.Refusal.{Refusal}
+use Rattle.book.specs.Refusals.{refusal}
+use Rattle.book.specs.Answer.{given}
 use Rattle.book.specs.Command.{Decoded, ended, broken, command, decode, begin, end}
 use Rattle.book.specs.Record.{record_path_of}
 use Rattle.book.specs.Book.{verdict}
@@ -42,6 +43,6 @@ pub record AcceptedAs (commands text : Text) (begins starts lens : List ℕ) (n 
   pub rows : (i : ℕ) → i < n → Row commands text (get_or begins i 0) (get_or starts i 0) (get_or lens i 0) (get_or records i [])
 
 -- what is answered of a book; where it is refused the tables are left open
-abbrev pub JudgedAs : Text → Text → List ℕ → List ℕ → List ℕ → Judged → Type 0
-JudgedAs commands text begins starts lens (No k p) = verdict commands text ≡ refused k p
-JudgedAs commands text begins starts lens (Yes n) = AcceptedAs commands text begins starts lens n
+abbrev pub JudgedAs : Text → Text → List ℕ → List ℕ → List ℕ → Result ℕ Refusal → Type 0
+JudgedAs commands text begins starts lens (Err r) = verdict commands text ≡ refusal r
+JudgedAs commands text begins starts lens (Ok n) = AcceptedAs commands text begins starts lens n

@@ -2,6 +2,7 @@ pub mod Answer
 pub mod Command
 pub mod Rules
 pub mod Record
+pub mod Refusals
 pub mod Book
 pub mod Index
 pub mod Sound

@@ -1,6 +1,6 @@
 -- What a record says: its fields as projections of its commands.
 use Rattle.std.specs.Prelude.{ℕ, List, [], ◌∷◌, map, Bool, ◌&&◌, cond, eqb}
-use Rattle.std.proofs.Math.Option.{Option, some, none, get_or}
+use Rattle.std.specs.Prelude.{Option, Some, None, unwrap_or}
 use Rattle.text.specs.Bytes.{Text}
 use Rattle.text.specs.Text.{some_of}
 use Rattle.book.specs.declared.Cmd.{Cmd}
@@ -27,8 +27,8 @@ only ok (c ∷ cs) = cond (ok c) (c ∷ only ok cs) (only ok cs)
 
 -- what f says of the first command, if there is one
 unfoldable pub first_of : {A : Type 0} → (Cmd → A) → List Cmd → Option A
-first_of f [] = none
-first_of f (c ∷ cs) = some (f c)
+first_of f [] = None
+first_of f (c ∷ cs) = Some (f c)
 
 module _ (text : Text) where
   -- the strings of all commands with a byte
@@ -41,7 +41,7 @@ module _ (text : Text) where
 
   -- "02, 04, 06, 0A and 0E make a list present, perhaps empty"
   unfoldable pub listed : ℕ → ℕ → List Cmd → Option (List Text)
-  listed mark item r = cond (some_of (is mark) r) (some (strings item r)) none
+  listed mark item r = cond (some_of (is mark) r) (Some (strings item r)) None
 
   -- "a target after its key with only targets between"
   unfoldable pub targets_of : List Cmd → List Text
@@ -55,7 +55,7 @@ module _ (text : Text) where
 
   -- "0A PATHS, 0B key S, 0C target S"
   unfoldable pub mapping : List Cmd → Option (List Key)
-  mapping r = cond (some_of (is paths) r) (some (keys_of r)) none
+  mapping r = cond (some_of (is paths) r) (Some (keys_of r)) None
 
   -- "13 text option: id, S"
   unfoldable pub option_of : ℕ → List Cmd → Option Text
@@ -63,7 +63,7 @@ module _ (text : Text) where
 
   -- "01 BEGIN S (path)"
   unfoldable pub record_path_of : List Cmd → Text
-  record_path_of r = get_or (single begin r) []
+  record_path_of r = unwrap_or (single begin r) []
 
 -- "12 flag: id, value 0 or 1"
 unfoldable pub flag_of : ℕ → List Cmd → Option Bool

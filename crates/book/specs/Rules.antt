@@ -1,6 +1,6 @@
 -- For one command, given those before it, the lowest refusal that applies.
 use Rattle.std.specs.Prelude.{ℕ, suc, ◌+◌, List, [], ◌∷◌, map, Bool, true, false, not, ◌&&◌, ◌||◌, cond, length, get_or, take, drop, eqb, leb}
-use Rattle.std.proofs.Math.Option.{Option, some, none}
+use Rattle.std.specs.Prelude.{Option, Some, None}
 use Rattle.book.specs.declared.Cmd.{Cmd}
 use Rattle.text.specs.Bytes.{Text}
 use Rattle.text.specs.Text.{same_text, some_of}
@@ -10,12 +10,12 @@ use Rattle.path_rules.specs.Paths.{record_path, lead_rule}
 use Rattle.patterns.specs.Patterns.{pattern_rule}
 use Rattle.compare.specs.Compare.{covers}
 
--- What stands before a command: the records that are closed, and the commands of the open one, none if none is open. Newest first.
+-- What stands before a command: the records that are closed, and the commands of the open one, None if None is open. Newest first.
 pub record Before : Type 0 where
   pub records : List (List Cmd)
   pub here : List Cmd
 
--- "BEGIN S (path)", "S is start and length": a command's string, empty where it has none
+-- "BEGIN S (path)", "S is start and length": a command's string, empty where it has None
 unfoldable pub text_of : Text → Cmd → Text
 text_of text c = take c.len (drop c.start text)
 
@@ -108,10 +108,10 @@ unfoldable pub fault_of : Text → (ℕ → ℕ) → ℕ → ℕ → List Text �
 fault_of text count last n keys paths c =
     cond (in_order count last c)
     (cond (good_string text c)
-    (cond (too_many count last c n) (some 5)
-    (cond (given_before keys paths c.op (text_of text c)) (some 6) none))
-    (some 4))
-    (some 3)
+    (cond (too_many count last c n) (Some 5)
+    (cond (given_before keys paths c.op (text_of text c)) (Some 6) None))
+    (Some 4))
+    (Some 3)
 
 -- the refusal of a command, given what stands before it
 unfoldable pub fault : Text → Before → Cmd → Option ℕ

@@ -1,19 +1,24 @@
 -- What the code keeps of the commands before.
-use Rattle.std.specs.Prelude.{ℕ, zero, suc, ◌+◌, ◌≤◌, ◌<◌, List, [], ◌∷◌, ◌≡◌, Bool, true, false, cond, length, get_or, set, take, drop, eqb}
-use Rattle.std.proofs.Math.Option.{Option, some, none}
+use Rattle.std.specs.Prelude.{ℕ, ◌+◌, ◌≤◌, List, ◌≡◌, Bool, cond, length, get_or, set, take, drop, map, reverse, eqb}
+use Rattle.std.specs.Prelude.{Option, Some, None}
+use Rattle.std.specs.List.{All}
 use Rattle.text.specs.Text.{same_text}
 use Rattle.compare.specs.Compare.{digest_of}
 use Rattle.book.specs.declared.Cmd.{Cmd}
+use Rattle.book.specs.declared.Seen.{Seen}
 use Rattle.book.specs.Rules.{slot, in_range, tally, last_op, clash}
 
 -- how many of a slot
 abbrev pub has : List ℕ → ℕ → ℕ
 has counts k = get_or counts k 0
 
--- r is the command's slot, or 39 where its id or value is out of range
-pub record Slotted (r : ℕ) (c : Cmd) : Type 0 where
-  pub inside : r < 39 → (in_range c ≡ true) × (r ≡ slot c)
-  pub outside : 39 ≤ r → in_range c ≡ false
+-- the command's slot, where its id and value are in range
+unfoldable pub slotted : Cmd → Option ℕ
+slotted c = cond (in_range c) (Some (slot c)) None
+
+-- what a table says, where 0 stands for nothing
+abbrev pub entry : ℕ → Option ℕ
+entry n = cond (eqb n 0) None (Some n)
 
 -- how many of each slot there are after a command whose slot is k
 unfoldable pub pushed : List ℕ → Cmd → ℕ → List ℕ
@@ -25,28 +30,27 @@ pub record Agrees (counts : List ℕ) (last : ℕ) (here : List Cmd) : Type 0 wh
   pub each : (k : ℕ) → has counts k ≡ tally k here
   pub byte : last ≡ last_op here
 
--- the strings that the first n rows of a table of starts and lengths say, the last row first
-unfoldable pub texts : List ℕ → List ℕ → List ℕ → ℕ → List (List ℕ)
-texts text starts lens zero = []
-texts text starts lens (suc n) = take (get_or lens n 0) (drop (get_or starts n 0) text) ∷ texts text starts lens n
+-- the string that a row says
+abbrev pub string_at : List ℕ → Seen → List ℕ
+string_at text r = take r.len (drop r.start text)
 
--- each of the first n rows is there and within the text
-pub record Table (text starts lens : List ℕ) (n : ℕ) : Type 0 where
-  pub starts_there : n ≤ length starts
-  pub lens_there : n ≤ length lens
-  pub small : n ≤ 64
-  pub within : (i : ℕ) → i < n → get_or starts i 0 + get_or lens i 0 ≤ length text
+-- the strings of the rows, the last row first
+unfoldable pub texts : List ℕ → List Seen → List (List ℕ)
+texts text rows = map (string_at text) (reverse rows)
 
--- the marks of the first n rows are there, each the digest of the row's string
-pub record Marked (text starts lens marks : List ℕ) (n : ℕ) : Type 0 where
-  pub there : n ≤ length marks
-  pub each : (i : ℕ) → i < n → get_or marks i 0 ≡ digest_of (take (get_or lens i 0) (drop (get_or starts i 0) text))
+-- the row's string lies in the text, and its mark is the string's digest
+pub record IsSeen (text : List ℕ) (r : Seen) : Type 0 where
+  pub within : r.start + r.len ≤ length text
+  pub marked : r.mark ≡ digest_of (string_at text r)
+
+-- the row of a command's string
+abbrev pub row_of : List ℕ → Cmd → Seen
+row_of text c = record { start = c.start; len = c.len; mark = digest_of (take c.len (drop c.start text)) }
+
+-- each row says a string of the text
+abbrev pub AllSeen : List ℕ → List Seen → Type 0
+AllSeen text rows = All (IsSeen text) rows
 
 -- two strings meet: as paths, or as keys
 unfoldable pub meets : Bool → List ℕ → List ℕ → Bool
 meets paths a b = cond paths (clash a b) (same_text a b)
-
--- a refusal as a number, 0 for none
-abbrev pub number : Option ℕ → ℕ
-number none = 0
-number (some n) = n

@@ -3,8 +3,9 @@
 
 ghost use Rattle.std.specs.Prelude.{◌≡◌, false, ◌+◌, ◌*◌, ◌<◌, length, take, drop, eqb};
 ghost use Rattle.book.specs.Command.{width_of, word, operands};
+ghost use Rattle.book.specs.Refusals.{number_of};
 ghost use Rattle.book.specs.Rules.{text_of};
-ghost use Rattle.book.specs.Steps.{step_at};
+ghost use Rattle.book.specs.Steps.{width_told, step_at};
 
 use text::{from, upto};
 
@@ -69,6 +70,16 @@ pub const END_SLOT: usize = 20;
 
 pub const FLAG_SLOTS: usize = 21;
 
+// The first slot of the text options, and how many slots there are.
+pub const TEXT_SLOTS: usize = 32;
+
+pub const SLOTS: usize = 39;
+
+// The last id of a flag, and that of a text option.
+pub const LAST_FLAG: u8 = 10;
+
+pub const LAST_TEXT: u8 = 6;
+
 // A command: its byte, the id and value of a flag, the id of a text option, and start and length of its string. What it has not is 0.
 #[derive(Clone, Copy)]
 pub struct Cmd {
@@ -79,59 +90,45 @@ pub struct Cmd {
     pub len: usize,
 }
 
-// A reading position in the commands.
-#[derive(Clone, Copy)]
-pub struct Cursor {
-    pub at: usize,
-}
-
-#[derive(Clone, Copy)]
-pub enum Step {
-    // The command, and the position after it.
-    Command(Cmd, Cursor),
+// Why no command is read.
+#[derive(Clone, Copy, PartialEq, Eq)]
+pub enum Stop {
     // An unknown byte, or operands cut short.
     Broken,
     End,
-}
-
-// A byte as an index.
-pub fn wide(x: u8) -> usize
-    ensures { (result ≡ x) × (result < 256) }
-{
-    x as usize
 }
 
 // Whether a command's operands are a string and nothing else, as most commands' are.
 fn is_spanned(op: u8) -> bool
     ensures { result ≡ eqb (width_of op) 4 }
 {
-    match op {
+    matches!(
+        op,
         BEGIN
-        | FILE
-        | INCLUDE_ITEM
-        | EXCLUDE_ITEM
-        | EXTENDS
-        | BASE_URL
-        | KEY
-        | TARGET
-        | REFERENCE
-        | ROOT_DIR
-        | OUT_DIR
-        | DECLARATION_DIR => true,
-        _ => false,
-    }
+            | FILE
+            | INCLUDE_ITEM
+            | EXCLUDE_ITEM
+            | EXTENDS
+            | BASE_URL
+            | KEY
+            | TARGET
+            | REFERENCE
+            | ROOT_DIR
+            | OUT_DIR
+            | DECLARATION_DIR
+    )
 }
 
-// The operand bytes of any other command; 9 for an unknown byte.
-fn width(op: u8) -> usize
+// The operand bytes of any other command, if it is one.
+fn width(op: u8) -> Option<usize>
     requires { eqb (width_of op) 4 ≡ false }
-    ensures { result ≡ width_of op }
+    ensures { result ≡ width_told (width_of op) }
 {
     match op {
-        FILES | INCLUDE | EXCLUDE | PATHS | ROOT_DIRS | END => 0,
-        FLAG => 2,
-        TEXT_OPTION => 5,
-        _ => 9,
+        FILES | INCLUDE | EXCLUDE | PATHS | ROOT_DIRS | END => Some(0),
+        FLAG => Some(2),
+        TEXT_OPTION => Some(5),
+        _ => None,
     }
 }
 
@@ -140,7 +137,7 @@ pub fn word_at(s: &[u8], at: usize) -> usize
     requires { at + 1 < length s.now }
     ensures { result ≡ word s.now at }
 {
-    wide(s[at]) + wide(s[at + 1]) * 256
+    usize::from(s[at]) + usize::from(s[at + 1]) * 256
 }
 
 // The command at the head of s, whose operands are a string, which is there.
@@ -148,15 +145,12 @@ pub fn read_span(s: &[u8]) -> Cmd
     requires { 4 < length s.now }
     ensures { result ≡ operands 4 s.now }
 {
-    let op = s[0];
-    let start = word_at(s, 1);
-    let len = word_at(s, 3);
     Cmd {
-        op: op,
+        op: s[0],
         id: 0,
         value: 0,
-        start: start,
-        len: len,
+        start: word_at(s, 1),
+        len: word_at(s, 3),
     }
 }
 
@@ -166,69 +160,52 @@ fn read(s: &[u8], w: usize) -> Cmd
     ensures { result ≡ operands w s.now }
 {
     let op = s[0];
-    if w == 5 {
-        let id = s[1];
-        let start = word_at(s, 2);
-        let len = word_at(s, 4);
-        return Cmd {
-            op: op,
-            id: id,
+    match w {
+        5 => Cmd {
+            op,
+            id: s[1],
             value: 0,
-            start: start,
-            len: len,
-        };
-    }
-    if w == 2 {
-        let id = s[1];
-        let value = s[2];
-        return Cmd {
-            op: op,
-            id: id,
-            value: value,
+            start: word_at(s, 2),
+            len: word_at(s, 4),
+        },
+        2 => Cmd {
+            op,
+            id: s[1],
+            value: s[2],
             start: 0,
             len: 0,
-        };
-    }
-    Cmd {
-        op: op,
-        id: 0,
-        value: 0,
-        start: 0,
-        len: 0,
+        },
+        _ => Cmd {
+            op,
+            id: 0,
+            value: 0,
+            start: 0,
+            len: 0,
+        },
     }
 }
 
-impl Cursor {
-    // The command at the reading position, and the next position.
-    pub fn step(self, commands: &[u8]) -> Step
-        ensures { result ≡ step_at commands.now self.at }
-    {
-        let at = self.at;
-        if commands.len() <= at {
-            return Step::End;
-        }
-        let op = commands[at];
-        if is_spanned(op) {
-            if commands.len() - at <= SPAN {
-                return Step::Broken;
-            }
-            let span = from(commands, at);
-            let c = read_span(span);
-            let after = at + SPAN + 1;
-            return Step::Command(c, Cursor { at: after });
-        }
-        let w = width(op);
-        if w == 9 {
-            return Step::Broken;
-        }
-        if commands.len() - at <= w {
-            return Step::Broken;
-        }
-        let part = from(commands, at);
-        let c = read(part, w);
-        let next = at + w + 1;
-        Step::Command(c, Cursor { at: next })
+// The command at a place, and the place after it.
+pub fn command_at(commands: &[u8], at: usize) -> Result<(Cmd, usize), Stop>
+    ensures { result ≡ step_at commands.now at }
+{
+    if commands.len() <= at {
+        return Err(Stop::End);
     }
+    let op = commands[at];
+    if is_spanned(op) {
+        if commands.len() - at <= SPAN {
+            return Err(Stop::Broken);
+        }
+        return Ok((read_span(from(commands, at)), at + SPAN + 1));
+    }
+    let Some(w) = width(op) else {
+        return Err(Stop::Broken);
+    };
+    if commands.len() - at <= w {
+        return Err(Stop::Broken);
+    }
+    Ok((read(from(commands, at), w), at + w + 1))
 }
 
 // len bytes of s from start on, as far as s reaches.
@@ -245,18 +222,87 @@ pub fn string_of(text: &[u8], c: Cmd) -> &[u8]
     piece(text, c.start, c.len)
 }
 
-#[derive(Clone, Copy)]
-pub enum Checked {
-    // A refusal's number and place.
-    Refused(u32, usize),
-    // Where the record's commands end, and its path's start and length.
-    Closed(usize, usize, usize),
+// Why a book, a question or a load is refused, by the refusals' numbers.
+#[derive(Clone, Copy, PartialEq, Eq)]
+pub enum Fault {
+    // 1: a slice is over its size.
+    TooLarge,
+    // 2: an unknown byte, operands cut short, or a record left open.
+    Broken,
+    // 3: out of order, repeated, or an id or value out of range.
+    OutOfOrder,
+    // 4: a string breaks its rule or leaves the text.
+    BadString,
+    // 5: one too many.
+    TooMany,
+    // 6: a path or a key given before, or a path that is an ancestor of another's.
+    GivenBefore,
+    // 7: what is asked about breaks its rule.
+    BadQuestion,
+    // 8: no such config.
+    NotFound,
+    // 9: a config met again on its own chain.
+    Circular,
+    // 10: a config references itself.
+    RefersToItself,
+    // 11: an empty extends entry.
+    EmptyEntry,
+    // 12: an extends entry starts with neither `/` nor `.`
+    BareEntry,
+    // 13: the answer is longer than the output.
+    NoRoom,
 }
 
+impl Fault {
+    pub fn number(self) -> u32
+        ensures { result ≡ number_of self }
+    {
+        match self {
+            Fault::TooLarge => 1,
+            Fault::Broken => 2,
+            Fault::OutOfOrder => 3,
+            Fault::BadString => 4,
+            Fault::TooMany => 5,
+            Fault::GivenBefore => 6,
+            Fault::BadQuestion => 7,
+            Fault::NotFound => 8,
+            Fault::Circular => 9,
+            Fault::RefersToItself => 10,
+            Fault::EmptyEntry => 11,
+            Fault::BareEntry => 12,
+            Fault::NoRoom => 13,
+        }
+    }
+}
+
+// A refusal: why, and the place.
+#[derive(Clone, Copy, PartialEq, Eq)]
+pub struct Refusal {
+    pub fault: Fault,
+    pub place: usize,
+}
+
+// A record that was read to its END: where its commands end, and its path's start and length.
 #[derive(Clone, Copy)]
-pub enum Judged {
-    // A refusal's number and place.
-    No(u32, usize),
-    // How many records there are.
-    Yes(usize),
+pub struct Closed {
+    pub end: usize,
+    pub start: usize,
+    pub len: usize,
+}
+
+// A path or a key that was seen: where it stands in the text, and its digest.
+#[derive(Clone, Copy)]
+pub struct Seen {
+    pub start: usize,
+    pub len: usize,
+    pub mark: u8,
+}
+
+impl Seen {
+    // A row that says nothing yet.
+    pub const NONE: Seen = Seen {
+        start: 0,
+        len: 0,
+        mark: 0,
+    };
 }

@@ -11,17 +11,22 @@ use borrow.Author.Tests.{lt-ltb, le-ltb, eqb-true, eqb-false}
 use Rattle.text.specs.Bytes.{Text}
 use Rattle.text.proofs.Picks.{by_test}
 use Rattle.book.specs.declared.Cmd.{Cmd}
-use Rattle.book.specs.declared.Checked.{Checked}
-use Rattle.book.specs.declared.Checked.TheVariants.{Refused, Closed}
+use Rattle.std.specs.Prelude.{Result, Ok}
+use Rattle.book.specs.declared.Closed.{Closed}
+use Rattle.book.specs.declared.Refusal.{Refusal}
 use Rattle.book.specs.Answer.{refused}
 use Rattle.book.specs.Command.{decode}
 use Rattle.book.specs.Rules.{path_of}
 use Rattle.book.specs.Book.{judge, finish, verdict}
 use Rattle.book.specs.Index.{up_to_end, record_at, begins_of, Row, AcceptedAs}
-use Rattle.book.specs.State.{texts, Table, Marked}
+use Rattle.book.specs.declared.Seen.{Seen}
+use Rattle.book.specs.State.{texts, IsSeen, AllSeen}
+use Rattle.std.proofs.lemmas.List.{take_more_set, length-append}
+use Rattle.std.proofs.lemmas.List.Elements.{All-nil, All-push}
+use lib.Seq.{length-take-le}
 use Rattle.compare.specs.Compare.{digest_of}
 use Rattle.book.specs.Checks.{Held, ClosedAs, CheckedAs}
-use Rattle.verdicts.proofs.Turns.{texts_put, table_put, marked_put}
+use Rattle.verdicts.proofs.Turns.{texts_more}
 
 module _ (commands text : Text) where
   pub size_commands : 32768 < length commands → verdict commands text ≡ refused 1 0
@@ -32,63 +37,70 @@ module _ (commands text : Text) where
   unfolding verdict
   size_text h l = rw (le-ltb _ _ h, lt-ltb _ _ l) refl
 
-  pub record Booked (begins starts lens marks : List ℕ) (n at : ℕ) : Type 0 where
+  pub record Booked (begins starts lens : List ℕ) (rows : List Seen) (n at : ℕ) : Type 0 where
     pub records : List (List Cmd)
-    pub held : Held text starts lens n records
-    pub table : Table text starts lens n
-    pub marked : Marked text starts lens marks n
-    pub sizes : (length begins ≡ 64) × ((length starts ≡ 64) × ((length lens ≡ 64) × (length marks ≡ 64)))
+    pub held : Held text (take n rows) records
+    pub seen : AllSeen text (take n rows)
+    pub few : n ≤ 64
+    pub sizes : (length begins ≡ 64) × ((length starts ≡ 64) × (length lens ≡ 64))
+    pub room : length rows ≡ 64
     pub place : at ≤ length commands
     pub whole : verdict commands text ≡ judge text (record { records = records; here = [] }) (decode 0 at (drop at commands))
     pub offsets : begins_of (decode 0 0 commands) ≡ take n begins ++ begins_of (decode 0 at (drop at commands))
-    pub rows : (i : ℕ) → i < n → Row commands text (get_or begins i 0) (get_or starts i 0) (get_or lens i 0) (get_or (reverse (map reverse records)) i [])
+    pub index : (i : ℕ) → i < n → Row commands text (get_or begins i 0) (get_or starts i 0) (get_or lens i 0) (get_or (reverse (map reverse records)) i [])
 
-  pub booked_none : length commands ≤ 32768 → length text ≤ 65535 → (begins starts lens marks : List ℕ) → length begins ≡ 64 → length starts ≡ 64 → length lens ≡ 64 → length marks ≡ 64 → Booked begins starts lens marks 0 0
+  pub booked_none : length commands ≤ 32768 → length text ≤ 65535 → (begins starts lens : List ℕ) (rows : List Seen) → length begins ≡ 64 → length starts ≡ 64 → length lens ≡ 64 → length rows ≡ 64 → Booked begins starts lens rows 0 0
   unfolding verdict texts
-  booked_none h l begins starts lens marks a b c d =
+  booked_none h l begins starts lens rows a b c d =
       record {
         records = [];
         held = record { size = refl; paths = refl };
-        table = record { starts_there = omega arith; lens_there = omega arith; small = omega arith; within = λ i h. absurd (omega (arith, h)) };
-        marked = record { there = omega arith; each = λ i h. absurd (omega (arith, h)) };
-        sizes = (a, (b, (c, d)));
+        seen = All-nil (IsSeen text);
+        few = omega arith;
+        sizes = (a, (b, c));
+        room = d;
         place = omega arith;
         whole = rw (le-ltb _ _ h, le-ltb _ _ l) refl;
         offsets = refl;
-        rows = λ i h. absurd (omega (arith, h));
+        index = λ i h. absurd (omega (arith, h));
       }
 
-  module _ {begins starts lens marks : List ℕ} {n at : ℕ} (s : Booked begins starts lens marks n at) where
+  module _ {begins starts lens : List ℕ} {rows : List Seen} {n at : ℕ} (s : Booked begins starts lens rows n at) where
+    -- as many rows as records
+    rows_long : length (take n rows) ≡ n
+    rows_long = length-take-le n rows (omega (arith, s.few, s.room))
+
     pub booked_end : length commands ≤ at → AcceptedAs commands text begins starts lens n
     unfolding judge decode finish begins_of
     booked_end h =
         record {
           records = reverse (map reverse s.records);
           accepted = s.whole ∙ rw (drop_of_length-le commands h) refl;
-          size = length-reverse (map reverse s.records) ∙ length-map s.records reverse ∙ s.held.size;
-          few = s.table.small;
+          size = length-reverse (map reverse s.records) ∙ length-map s.records reverse ∙ s.held.size ∙ rows_long;
+          few = s.few;
           offsets = sym (s.offsets ∙ rw (drop_of_length-le commands h) (append-nil (take n begins)));
-          rows = s.rows;
+          rows = s.index;
         }
 
-    module _ (part : Text) (is : part ≡ drop at commands) (r : Checked) (c : CheckedAs part at text starts lens n r) where
-      pub booked_refused : (k p : ℕ) → r ≡ Refused k p → verdict commands text ≡ refused k p
-      booked_refused k p e =
-          let d : CheckedAs part at text starts lens n (Refused k p) = subst (CheckedAs part at text starts lens n) e c in
-          s.whole ∙ ap (λ (l : Text). judge text (record { records = s.records; here = [] }) (decode 0 at l)) (sym is) ∙ d s.records s.held
+    module _ (part : Text) (is : part ≡ drop at commands) (r : Result Closed Refusal) (c : CheckedAs part at text (take n rows) r) where
+      module _ (o : Closed) (e : r ≡ Ok o) where
+        abbrev to : ℕ
+        to = o.end
 
-      module _ (to start len : ℕ) (e : r ≡ Closed to start len) where
-        closed_as : ClosedAs part at text starts lens n to start len
-        closed_as = subst (CheckedAs part at text starts lens n) e c
+        abbrev start : ℕ
+        start = o.start
+
+        abbrev len : ℕ
+        len = o.len
+
+        closed_as : ClosedAs part at text (take n rows) to start len
+        closed_as = subst (CheckedAs part at text (take n rows)) e c
 
         left : length part ≡ length commands - at
         left = ap length is ∙ length-drop at commands
 
         pub booked_few : n < 64
-        booked_few = closed_as.few
-
-        pub booked_less : length commands - to < length commands - at
-        booked_less = omega (arith, closed_as.moves, left, s.place)
+        booked_few = omega (arith, closed_as.few, rows_long)
 
         on : drop (to - at) part ≡ drop to commands
         on =
@@ -100,7 +112,7 @@ module _ (commands text : Text) where
         listed = reverse-cons (reverse closed_as.closed) (map reverse s.records)
 
         before : length (reverse (map reverse s.records)) ≡ n
-        before = length-reverse (map reverse s.records) ∙ length-map s.records reverse ∙ s.held.size
+        before = length-reverse (map reverse s.records) ∙ length-map s.records reverse ∙ s.held.size ∙ rows_long
 
         new_row : Row commands text at start len (reverse closed_as.closed)
         unfolding record_at
@@ -116,35 +128,42 @@ module _ (commands text : Text) where
         rows_on i h =
             by_test (eqb i n)
             (λ y. subst (λ (j : ℕ). Row commands text (get_or (set begins n at) j 0) (get_or (set starts n start) j 0) (get_or (set lens n len) j 0) (get_or (reverse (map reverse (closed_as.closed ∷ s.records))) j [])) (sym (eqb-true i n y))
-            (rw (listed, get_or_at (reverse (map reverse s.records)) (reverse closed_as.closed) [] [] n before, get_or-set_same begins n at 0 (omega (arith, booked_few, s.sizes.0)), get_or-set_same starts n start 0 (omega (arith, booked_few, s.sizes.1.0)), get_or-set_same lens n len 0 (omega (arith, booked_few, s.sizes.1.1.0)))
+            (rw (listed, get_or_at (reverse (map reverse s.records)) (reverse closed_as.closed) [] [] n before, get_or-set_same begins n at 0 (omega (arith, booked_few, s.sizes.0)), get_or-set_same starts n start 0 (omega (arith, booked_few, s.sizes.1.0)), get_or-set_same lens n len 0 (omega (arith, booked_few, s.sizes.1.1)))
             new_row))
             (λ y.
             let other : i ≡ n → ⊥ = eqb-false i n y in
             let less : i < n = omega (arith, h, other) in
             rw (listed, get_or-append (reverse (map reverse s.records)) (reverse closed_as.closed ∷ []) [] i (omega (arith, less, before)), get_or-set_other begins n i at 0 other, get_or-set_other starts n i start 0 other, get_or-set_other lens n i len 0 other)
-            (s.rows i less))
+            (s.index i less))
 
-        pub booked_on : (mark : ℕ) → mark ≡ digest_of (take len (drop start text)) → Booked (set begins n at) (set starts n start) (set lens n len) (set marks n mark) (n + 1) to
+        pub booked_on : (mark : ℕ) → mark ≡ digest_of (take len (drop start text)) → Booked (set begins n at) (set starts n start) (set lens n len) (set rows n (record { start = start; len = len; mark = mark })) (n + 1) to
         booked_on mark y =
             let d = closed_as in
             record {
               records = d.closed ∷ s.records;
               held = record {
-                size = ap suc s.held.size ∙ sym (add-one n);
-                paths = here d.path ∙ sym (texts_put 64 (omega arith) text starts lens n start len s.table d.within d.few s.sizes.1.0 s.sizes.1.1.0);
+                size = ap suc s.held.size ∙ sym (add-one (length (take n rows))) ∙ sym (ap length (more row) ∙ length-append (take n rows) (row ∷ []));
+                paths = here d.path ∙ sym (ap (texts text) (more row) ∙ texts_more text (take n rows) row);
               };
-              table = table_put 64 (omega arith) text starts lens n start len s.table d.within d.few s.sizes.1.0 s.sizes.1.1.0;
-              marked = marked_put 64 (omega arith) text starts lens n start len s.table d.within d.few s.sizes.1.0 s.sizes.1.1.0 marks s.marked s.sizes.1.1.1 mark y;
-              sizes = (length-set begins n at ∙ s.sizes.0, (length-set starts n start ∙ s.sizes.1.0, (length-set lens n len ∙ s.sizes.1.1.0, length-set marks n mark ∙ s.sizes.1.1.1)));
+              seen = subst (AllSeen text) (sym (more row)) (All-push (IsSeen text) (take n rows) row s.seen (record { within = d.within; marked = y }));
+              few = omega (arith, booked_few);
+              sizes = (length-set begins n at ∙ s.sizes.0, (length-set starts n start ∙ s.sizes.1.0, length-set lens n len ∙ s.sizes.1.1));
+              room = length-set rows n row ∙ s.room;
               place = omega (arith, d.moves, left, s.place);
               whole =
                   s.whole ∙ ap (λ (l : Text). judge text (record { records = s.records; here = [] }) (decode 0 at l)) (sym is) ∙ d.whole s.records s.held
                   ∙ ap (λ (l : Text). judge text (record { records = d.closed ∷ s.records; here = [] }) (decode 0 to l)) on;
               offsets = offsets_on;
-              rows = rows_on;
+              index = rows_on;
             }
           where
-            here : {p : Text} → path_of text closed_as.closed ≡ p → map (path_of text) (closed_as.closed ∷ s.records) ≡ p ∷ texts text starts lens n
+            row : Seen
+            row = record { start = start; len = len; mark = mark }
+
+            more : (r : Seen) → take (n + 1) (set rows n r) ≡ take n rows ++ r ∷ []
+            more r = take_more_set rows n r (omega (arith, booked_few, s.room))
+
+            here : {p : Text} → path_of text closed_as.closed ≡ p → map (path_of text) (closed_as.closed ∷ s.records) ≡ p ∷ texts text (take n rows)
             here y = rw (y, s.held.paths) refl
 
             offsets_on : begins_of (decode 0 0 commands) ≡ take (n + 1) (set begins n at) ++ begins_of (decode 0 to (drop to commands))

@@ -1,20 +1,23 @@
 -- The ways out of the fault of a command. Assumes nothing.
 use mathlib.Core.Path.{◌≡◌, refl, sym, ◌∙◌}
 use mathlib.Core.List.{List, []}
-use mathlib.Core.Bool.{Bool, true, false, not, ◌&&◌, cond}
-use mathlib.Core.Option.{some, none}
+use mathlib.Core.Bool.{Bool, true, false, ◌&&◌, cond}
+use Rattle.std.specs.Prelude.{Option, Some, None}
 use Prim.Native.Nat.{ℕ, ◌+◌, ◌≤◌}
 use lib.ListN.{length}
 use native.Mathlib.Omega.{arith}
 use lib.Dec.{leb, eqb}
-use borrow.Author.Tests.{eq-eqb, ne_eqb, eqb-true, leb-true, not-true, not-false}
+use borrow.Author.Tests.{eq-eqb, ne_eqb, eqb-true, leb-true}
 use Rattle.text.specs.Bytes.{Text}
 use Rattle.text.proofs.Picks.{by_test}
 use Rattle.book.specs.declared.Cmd.{Cmd}
 use Rattle.text.specs.Text.{some_of}
 use Rattle.book.specs.Command.{begin, key}
 use Rattle.book.specs.Rules.{in_order, good_string, too_many, given_before, clash, fault_of, text_of}
-use Rattle.book.specs.State.{meets, number}
+use Rattle.book.specs.State.{meets}
+
+pub nothing : {A : Type 0} {f : ℕ} → ◌≡◌ {A = Option ℕ} None (Some f) → A
+nothing e = let z : ⊥ = cc in absurd z
 
 pub good_within : (text : Text) (c : Cmd) → good_string text c ≡ true → c.start + c.len ≤ length text
 unfolding good_string
@@ -25,73 +28,64 @@ good_within text c e = leb-true (c.start + c.len) (length text) (left (leb (c.st
     left false b e = e
 
 module _ (text : Text) (count : ℕ → ℕ) (last n : ℕ) (keys paths : List Text) (c : Cmd) where
-  pub fault_order : (r : Bool) → r ≡ in_order count last c → r ≡ false → 3 ≡ number (fault_of text count last n keys paths c)
+  pub fault_order : (r : Bool) → r ≡ in_order count last c → r ≡ false → Some 3 ≡ fault_of text count last n keys paths c
   unfolding fault_of
   fault_order r d e = rw (← d, e) refl
 
-  pub out_of_order : (r : Bool) → r ≡ in_order count last c → not r ≡ true → 3 ≡ number (fault_of text count last n keys paths c)
-  out_of_order r d e = fault_order r d (not-true r e)
-
   module _ (r₁ : Bool) (d₁ : r₁ ≡ in_order count last c) (e₁ : r₁ ≡ true) (r₂ : Bool) (d₂ : r₂ ≡ good_string text c) where
-    pub fault_string : r₂ ≡ false → 4 ≡ number (fault_of text count last n keys paths c)
+    pub fault_string : r₂ ≡ false → Some 4 ≡ fault_of text count last n keys paths c
     unfolding fault_of
     fault_string e = rw (← d₁, e₁, ← d₂, e) refl
 
     module _ (e₂ : r₂ ≡ true) (r₃ : Bool) (d₃ : r₃ ≡ too_many count last c n) where
-      pub fault_many : r₃ ≡ true → 5 ≡ number (fault_of text count last n keys paths c)
+      pub fault_many : r₃ ≡ true → Some 5 ≡ fault_of text count last n keys paths c
       unfolding fault_of
       fault_many e = rw (← d₁, e₁, ← d₂, e₂, ← d₃, e) refl
 
-      module _ (e₃ : r₃ ≡ false) (s : Text) (is : s ≡ text_of text c) where
-        rest : number (fault_of text count last n keys paths c) ≡ number (cond (given_before keys paths c.op (text_of text c)) (some 6) none)
+      module _ (e₃ : r₃ ≡ false) where
+        rest : fault_of text count last n keys paths c ≡ cond (given_before keys paths c.op (text_of text c)) (Some 6) None
         unfolding fault_of
         rest = rw (← d₁, e₁, ← d₂, e₂, ← d₃, e₃) refl
 
-        module _ (r : Bool) where
-          pub fault_path : c.op ≡ begin → r ≡ some_of (meets true s) paths → (b : Bool) → r ≡ b → number (cond b (some 6) none) ≡ number (fault_of text count last n keys paths c)
-          unfolding given_before meets
-          fault_path o d b e = sym (rest ∙ rw (eq-eqb _ _ o, ← is, ← e, d) refl)
+        pub fault_path : (s : Text) → s ≡ text_of text c → c.op ≡ begin → (r : Bool) → r ≡ some_of (meets true s) paths → (b : Bool) → r ≡ b → cond b (Some 6) None ≡ fault_of text count last n keys paths c
+        unfolding given_before meets
+        fault_path s is o r d b e = sym (rest ∙ rw (eq-eqb _ _ o, ← is, ← e, d) refl)
 
-        pub fault_none : (c.op ≡ begin → ⊥) → keys ≡ [] → 0 ≡ number (fault_of text count last n keys paths c)
+        pub fault_none : (c.op ≡ begin → ⊥) → keys ≡ [] → None ≡ fault_of text count last n keys paths c
         unfolding given_before some_of
         fault_none m y = sym (rest ∙ by_test (eqb c.op key) (λ k. rw (ne_eqb _ _ m, k, y) refl) (λ k. rw (ne_eqb _ _ m, k) refl))
 
 -- a command's fault, told but for the keys before it
 module _ (text : Text) (count : ℕ → ℕ) (last n : ℕ) (keys paths : List Text) (c : Cmd) where
-  pub fault_kept : (f : ℕ) → f ≡ number (fault_of text count last n [] paths c) → (f ≡ 0 → ⊥) → f ≡ number (fault_of text count last n keys paths c)
+  pub fault_kept : (f : ℕ) → fault_of text count last n [] paths c ≡ Some f → fault_of text count last n keys paths c ≡ Some f
   unfolding fault_of given_before some_of
-  fault_kept f e z =
+  fault_kept f e =
       by_test (in_order count last c)
       (λ a. by_test (good_string text c)
       (λ b. by_test (too_many count last c n)
-      (λ d. let y : f ≡ 5 = rw (a, b, d) at e in rw (a, b, d) y)
+      (λ d. let y : Some 5 ≡ Some f = rw (a, b, d) at e in rw (a, b, d) y)
       (λ d. by_test (eqb c.op begin)
-      (λ g. let y : f ≡ number (cond (some_of (clash (text_of text c)) paths) (some 6) none) = rw (a, b, d, g) at e in rw (a, b, d, g) y)
+      (λ g. let y : cond (some_of (clash (text_of text c)) paths) (Some 6) None ≡ Some f = rw (a, b, d, g) at e in rw (a, b, d, g) y)
       (λ g. by_test (eqb c.op key)
-      (λ k. let y : f ≡ 0 = rw (a, b, d, g, k) at e in absurd (z y))
-      (λ k. let y : f ≡ 0 = rw (a, b, d, g, k) at e in absurd (z y)))))
-      (λ b. let y : f ≡ 4 = rw (a, b) at e in rw (a, b) y))
-      (λ a. let y : f ≡ 3 = rw a at e in rw a y)
+      (λ k. let y : None ≡ Some f = rw (a, b, d, g, k) at e in nothing y)
+      (λ k. let y : None ≡ Some f = rw (a, b, d, g, k) at e in nothing y))))
+      (λ b. let y : Some 4 ≡ Some f = rw (a, b) at e in rw (a, b) y))
+      (λ a. let y : Some 3 ≡ Some f = rw a at e in rw a y)
 
-  -- where it has none but for the keys, it has one where it is a key given before
-  pub fault_given : number (fault_of text count last n [] paths c) ≡ 0 → number (fault_of text count last n keys paths c) ≡ number (cond (cond (eqb c.op key) (some_of (meets false (text_of text c)) keys) false) (some 6) none)
+  -- where it has None but for the keys, it has one where it is a key given before
+  pub fault_given : fault_of text count last n [] paths c ≡ None → fault_of text count last n keys paths c ≡ cond (cond (eqb c.op key) (some_of (meets false (text_of text c)) keys) false) (Some 6) None
   unfolding fault_of given_before some_of meets
   fault_given z =
       by_test (in_order count last c)
       (λ a. by_test (good_string text c)
       (λ b. by_test (too_many count last c n)
-      (λ d. let y : 5 ≡ 0 = rw (a, b, d) at z in absurd (omega (arith, y)))
+      (λ d. let y : Some 5 ≡ None = rw (a, b, d) at z in nothing (sym y))
       (λ d. by_test (eqb c.op begin)
       (λ g. by_test (some_of (clash (text_of text c)) paths)
-      (λ h. let y : 6 ≡ 0 = rw (a, b, d, g, h) at z in absurd (omega (arith, y)))
+      (λ h. let y : Some 6 ≡ None = rw (a, b, d, g, h) at z in nothing (sym y))
       (λ h. let o : c.op ≡ begin = eqb-true c.op begin g in rw (a, b, d, g, h, ne_eqb c.op key (λ q. absurd (omega (arith, o, q)))) refl))
       (λ g. by_test (eqb c.op key)
       (λ k. rw (a, b, d, g, k) refl)
       (λ k. rw (a, b, d, g, k) refl))))
-      (λ b. let y : 4 ≡ 0 = rw (a, b) at z in absurd (omega (arith, y))))
-      (λ a. let y : 3 ≡ 0 = rw a at z in absurd (omega (arith, y)))
-
-pub bad_string :
-    (text : Text) (count : ℕ → ℕ) (last n : ℕ) (keys paths : List Text) (c : Cmd) (r₁ : Bool) → r₁ ≡ in_order count last c → not r₁ ≡ false →
-    (r₂ : Bool) → r₂ ≡ good_string text c → not r₂ ≡ true → 4 ≡ number (fault_of text count last n keys paths c)
-bad_string text count last n keys paths c r₁ d₁ e₁ r₂ d₂ e₂ = fault_string text count last n keys paths c r₁ d₁ (not-false r₁ e₁) r₂ d₂ (not-true r₂ e₂)
+      (λ b. let y : Some 4 ≡ None = rw (a, b) at z in nothing (sym y)))
+      (λ a. let y : Some 3 ≡ None = rw a at z in nothing (sym y))

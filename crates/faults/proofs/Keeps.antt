@@ -1,14 +1,14 @@
 -- The rules of order over the state that the code keeps, and that it says what the definition reads off the commands before. Assumes nothing.
 use mathlib.Core.Path.{◌≡◌, refl, sym, ap, subst, ◌∙◌}
 use mathlib.Core.List.{List, [], ◌∷◌}
-use mathlib.Core.Bool.{Bool, true, false, not, ◌&&◌, ◌||◌, cond, true≢false, or-true, or-false}
+use mathlib.Core.Bool.{Bool, true, false, not, ◌&&◌, ◌||◌, cond, true≢false, and-false}
 use Prim.Native.Nat.{ℕ, zero, suc, ◌+◌, ◌-◌, ◌≤◌, ◌<◌}
 use native.Mathlib.Omega.{arith}
 use native.Mathlib.Numerals.{add-one}
 use lib.ListN.{length, get_or, set, take, drop, replicate, length-set}
 use lib.Seq.{get_or-set_same, get_or-set_other}
 use lib.Dec.{eqb, leb, leb→le}
-use borrow.Author.Tests.{eq-eqb, ne_eqb, le-leb, lt-leb, eqb-true, eqb-false, leb-true, leb-false}
+use borrow.Author.Tests.{eq-eqb, ne_eqb, le-leb, lt-leb, eqb-true, eqb-false, leb-true}
 use Rattle.text.specs.Bytes.{Text}
 use Rattle.book.specs.declared.Cmd.{Cmd}
 use Rattle.strings.specs.Strings.{string_rule}
@@ -16,7 +16,8 @@ use Rattle.strings.specs.Scan.{tame_text}
 use Rattle.strings.proofs.Tame.{tame_part}
 use Rattle.book.specs.Command.{begin, key, target, flag, text_option}
 use Rattle.book.specs.Rules.{slot, in_range, tally, openers, limits, opened, fresh, follows, in_order, too_many, text_of, own_rule, good_string}
-use Rattle.book.specs.State.{has, pushed, Agrees, Slotted}
+use Rattle.book.specs.State.{has, pushed, Agrees, slotted, entry}
+use Rattle.std.specs.Prelude.{Option, Some, None}
 use Rattle.book.proofs.Table.{at_each, T_true}
 use Rattle.text.proofs.Picks.{by_test}
 
@@ -32,6 +33,19 @@ and_left : (a b : Bool) → (a && b) ≡ true → a ≡ true
 and_left true b e = refl
 and_left false b e = e
 
+-- an entry of a table
+pub entry_some : (n : ℕ) {k : ℕ} → entry n ≡ Some k → (k ≡ n) × (k ≡ 0 → ⊥)
+entry_some n {k} e =
+    by_test (eqb n 0)
+    (λ y. let z : ◌≡◌ {A = Option ℕ} None (Some k) = rw y at e in let q : ⊥ = cc in absurd q)
+    (λ y. let z : Some n ≡ Some k = rw y at e in let q : n ≡ k = cc in (sym q, λ h. eqb-false n 0 y (q ∙ h)))
+
+pub entry_none : (n : ℕ) → entry n ≡ None → n ≡ 0
+entry_none n e =
+    by_test (eqb n 0)
+    (λ y. eqb-true n 0 y)
+    (λ y. let z : Some n ≡ None = rw y at e in let q : ⊥ = cc in absurd q)
+
 module _ (count : ℕ → ℕ) (last : ℕ) (c : Cmd) where
   pub order_range : in_range c ≡ false → false ≡ in_order count last c
   unfolding in_order
@@ -41,12 +55,33 @@ module _ (count : ℕ → ℕ) (last : ℕ) (c : Cmd) where
   unfolding in_order
   ranged o = and_left (in_range c) _ o
 
-  -- a command in order has a slot
-  pub in_slot : in_order count last c ≡ true → (k : ℕ) → Slotted k c → (k < 39) × (k ≡ slot c)
-  in_slot o k s = let h = small in (h, (s.inside h).1)
-    where
-      small : k < 39
-      small = by_test (leb 39 k) (λ y. absurd (true≢false (sym (ranged o) ∙ s.outside (leb-true 39 k y)))) (λ y. leb-false 39 k y)
+-- a command's slot, where it has one
+module _ (c : Cmd) where
+  pub slotted_some : {k : ℕ} → slotted c ≡ Some k → (in_range c ≡ true) × (k ≡ slot c)
+  unfolding slotted
+  slotted_some {k} e =
+      by_test (in_range c)
+      (λ y. let z : Some (slot c) ≡ Some k = rw y at e in let q : slot c ≡ k = cc in (y, sym q))
+      (λ y. let z : ◌≡◌ {A = Option ℕ} None (Some k) = rw y at e in let q : ⊥ = cc in absurd q)
+
+  pub slotted_none : slotted c ≡ None → in_range c ≡ false
+  unfolding slotted
+  slotted_none e =
+      by_test (in_range c)
+      (λ y. let z : Some (slot c) ≡ None = rw y at e in let q : ⊥ = cc in absurd q)
+      (λ y. y)
+
+  pub slot_under : c.op < 21 → in_range c ≡ true → slot c < 39
+  unfolding slot in_range
+  slot_under h e =
+      by_test (eqb c.op flag)
+      (λ y. let z : (leb c.id 10 && leb c.value 1) ≡ true = rw y at e in rw y (omega (arith, leb-true c.id 10 (and_left (leb c.id 10) (leb c.value 1) z))))
+      (λ y. by_test (eqb c.op text_option)
+      (λ t. let z : leb c.id 6 ≡ true = rw (y, t) at e in rw (y, t) (omega (arith, leb-true c.id 6 z)))
+      (λ t. rw (y, t) (omega (arith, h))))
+
+  pub slot_small : c.op < 21 → {k : ℕ} → slotted c ≡ Some k → k < 39
+  slot_small h e = let s = slotted_some e in omega (arith, s.1, slot_under h s.0)
 
 module _ (count : ℕ → ℕ) (last : ℕ) (c : Cmd) (op : ℕ) (is : op ≡ c.op) where
   module _ (range : in_range c ≡ true) (r : Bool) (e : r ≡ (eqb (get_or openers op 0) 0 || not (eqb (count (get_or openers op 0)) 0))) where
@@ -88,24 +123,7 @@ pub many_any : (count : ℕ → ℕ) (last last' : ℕ) (c : Cmd) (n : ℕ) → 
 unfolding too_many
 many_any count last last' c n = refl
 
--- what opens the command's list is there: w is the opener
-module _ (ns : List ℕ) (op w o : ℕ) (a : w ≡ o) (b : o ≡ get_or openers op 0) where
-  pub opened_none : w ≡ 0 → true ≡ (eqb (get_or openers op 0) 0 || not (eqb (has ns (get_or openers op 0)) 0))
-  opened_none z = rw (← b, ← a, eq-eqb w 0 z) refl
-
-  pub opened_some : (w ≡ 0 → ⊥) → not (eqb (get_or ns w 0) 0) ≡ (eqb (get_or openers op 0) 0 || not (eqb (has ns (get_or openers op 0)) 0))
-  opened_some z = rw (← b, ← a, ne_eqb w 0 z) refl
-
-pub fresh_none : (op n : ℕ) → n ≡ 0 → true ≡ (not (eqb (get_or limits op 0) 0) || eqb n 0)
-fresh_none op n z = rw (eq-eqb n 0 z) (sym (or-true (not (eqb (get_or limits op 0) 0))))
-
-pub fresh_some : (op n most : ℕ) → (n ≡ 0 → ⊥) → most ≡ get_or limits op 0 → not (eqb most 0) ≡ (not (eqb (get_or limits op 0) 0) || eqb n 0)
-fresh_some op n most z e = rw (ne_eqb n 0 z, ← e) (sym (or-false (not (eqb most 0))))
-
 module _ (text : Text) (c : Cmd) where
-  pub held_out : length text < c.start + c.len → false ≡ (leb (c.start + c.len) (length text) && string_rule (text_of text c))
-  held_out h = rw (lt-leb _ _ h) refl
-
   pub held_on : c.start + c.len ≤ length text → (r : Bool) → r ≡ string_rule (text_of text c) → r ≡ (leb (c.start + c.len) (length text) && string_rule (text_of text c))
   held_on h r e = rw (le-leb _ _ h) e
 
@@ -139,38 +157,30 @@ unfolding text_of
 tame_string text c t s e = subst (λ (l : Text). tame_text l ≡ true) (sym e) (tame_part text c.start c.len t)
 
 -- the ways out of the code's slot
-module _ (c : Cmd) (op id : ℕ) (is : op ≡ c.op) (at : id ≡ c.id) where
-  out : in_range c ≡ false → Slotted 39 c
-  out e = record { inside = λ h. absurd (omega (arith, h)); outside = λ h. e }
+module _ (c : Cmd) where
+  pub slot_flag : c.op ≡ flag → c.id ≤ 10 → c.value ≤ 1 → Some (21 + c.id) ≡ slotted c
+  unfolding slotted in_range slot
+  slot_flag e h v = rw (eq-eqb _ _ e, le-leb _ _ h, le-leb _ _ v) refl
 
-  within : (r : ℕ) → r < 39 → in_range c ≡ true → r ≡ slot c → Slotted r c
-  within r l e s = record { inside = λ h. (e, s); outside = λ h. absurd (omega (arith, h, l)) }
+  pub slot_flag_id : c.op ≡ flag → 10 < c.id → None ≡ slotted c
+  unfolding slotted in_range
+  slot_flag_id e h = rw (eq-eqb _ _ e, lt-leb _ _ h) refl
 
-  pub slot_flag_id : op ≡ flag → 10 < id → Slotted 39 c
-  unfolding in_range
-  slot_flag_id e h = out (rw (← is, ← at, eq-eqb _ _ e, lt-leb _ _ h) refl)
+  pub slot_flag_value : c.op ≡ flag → 1 < c.value → None ≡ slotted c
+  unfolding slotted in_range
+  slot_flag_value e h = rw (eq-eqb _ _ e, lt-leb _ _ h, and-false (leb c.id 10)) refl
 
-  pub slot_flag_value : op ≡ flag → id ≤ 10 → 1 < c.value → Slotted 39 c
-  unfolding in_range
-  slot_flag_value e h v = out (rw (← is, ← at, eq-eqb _ _ e, le-leb _ _ h, lt-leb _ _ v) refl)
+  pub slot_text : c.op ≡ text_option → c.id ≤ 6 → Some (32 + c.id) ≡ slotted c
+  unfolding slotted in_range slot
+  slot_text e h = rw (e, le-leb _ _ h) refl
 
-  pub slot_flag_on : op ≡ flag → id ≤ 10 → c.value ≤ 1 → Slotted (21 + id) c
-  unfolding in_range slot
-  slot_flag_on e h v =
-      within (21 + id) (omega (arith, h)) (rw (← is, ← at, eq-eqb _ _ e, le-leb _ _ h, le-leb _ _ v) refl) (rw (← is, ← at, eq-eqb _ _ e) refl)
+  pub slot_text_id : c.op ≡ text_option → 6 < c.id → None ≡ slotted c
+  unfolding slotted in_range
+  slot_text_id e h = rw (e, lt-leb _ _ h) refl
 
-  pub slot_text_id : (op ≡ flag → ⊥) → op ≡ text_option → 6 < id → Slotted 39 c
-  unfolding in_range
-  slot_text_id n e h = out (rw (← is, ← at, ne_eqb _ _ n, eq-eqb _ _ e, lt-leb _ _ h) refl)
-
-  pub slot_text_on : (op ≡ flag → ⊥) → op ≡ text_option → id ≤ 6 → Slotted (32 + id) c
-  unfolding in_range slot
-  slot_text_on n e h =
-      within (32 + id) (omega (arith, h)) (rw (← is, ← at, ne_eqb _ _ n, eq-eqb _ _ e, le-leb _ _ h) refl) (rw (← is, ← at, ne_eqb _ _ n, eq-eqb _ _ e) refl)
-
-  pub slot_on : (op ≡ flag → ⊥) → (op ≡ text_option → ⊥) → op < 21 → Slotted op c
-  unfolding in_range slot
-  slot_on n m l = within op (omega (arith, l)) (rw (← is, ne_eqb _ _ n, ne_eqb _ _ m) refl) (rw (← is, ne_eqb _ _ n, ne_eqb _ _ m) refl)
+  pub slot_byte : (c.op ≡ flag → ⊥) → (c.op ≡ text_option → ⊥) → Some c.op ≡ slotted c
+  unfolding slotted in_range slot
+  slot_byte n m = rw (ne_eqb _ _ n, ne_eqb _ _ m) refl
 
 -- a slot is a key's just where the byte is
 pub slot_key : (c : Cmd) → eqb (slot c) key ≡ eqb c.op key

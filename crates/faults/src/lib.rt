@@ -1,16 +1,19 @@
 // What is wrong with a command, given those before it.
 #![tactic(auto)]
 
-ghost use Rattle.std.specs.Prelude.{◌≡◌, [], true, not, ◌&&◌, ◌||◌, ◌+◌, ◌<◌, ◌≤◌, length, get_or, eqb, leb};
+ghost use Rattle.std.specs.Prelude.{◌≡◌, [], Some, true, not, ◌&&◌, ◌||◌, ◌+◌, ◌<◌, ◌≤◌, length, get_or, replicate, eqb, leb, IfOk};
 ghost use Rattle.strings.specs.Strings.{string_rule};
 ghost use Rattle.strings.specs.Scan.{tame_text};
 ghost use Rattle.book.specs.Command.{key, target};
 ghost use Rattle.book.specs.Rules.{slot, openers, limits, in_order, too_many, text_of, own_rule, good_string, fault_of};
-ghost use Rattle.book.specs.State.{Slotted, has, pushed, texts, Table, Marked, number};
+ghost use Rattle.book.specs.Refusals.{told};
+ghost use Rattle.book.specs.State.{slotted, entry, has, pushed, texts, meets, AllSeen};
+ghost use Rattle.text.specs.Text.{some_of};
 
 use book::{
-    BEGIN, Cmd, EXCLUDE_ITEM, EXTENDS, FILE, FLAG, INCLUDE_ITEM, KEY, REFERENCE, ROOT_DIR, TARGET,
-    TEXT_OPTION, string_of, wide,
+    BEGIN, Cmd, EXCLUDE_ITEM, EXTENDS, FILE, FLAG, FLAG_SLOTS, Fault, INCLUDE_ITEM, KEY, LAST_FLAG,
+    LAST_TEXT, REFERENCE, ROOT_DIR, SLOTS, Seen, TARGET, TARGET_SLOT, TEXT_OPTION, TEXT_SLOTS,
+    string_of,
 };
 use compare::digest;
 use meeting::is_met;
@@ -23,127 +26,87 @@ const MOST_RECORDS: usize = 64;
 // The least that a limit is.
 const FEWEST: u8 = 8;
 
-// What a command counts as, its slot, is its byte, but each flag id and each text id counts by itself: the slot of the targets, the first
-// of the flags and of the text options, and how many slots there are.
-const TARGET_SLOT: usize = 12;
+// A book's text, and whether it is known to be tame: of a tame text no string breaks the rules of all strings.
+#[derive(Clone, Copy)]
+pub struct BookText<'a> {
+    pub bytes: &'a [u8],
+    pub tame: bool,
+    pub ghost known: { tame ≡ true → tame_text bytes.now ≡ true },
+}
 
-const FLAG_SLOTS: usize = 21;
+impl<'a> BookText<'a> {
+    // The rule of its own that a command's string has.
+    #[inline(always)]
+    fn own_rule(&self, op: u8, s: &[u8]) -> bool
+        requires { self.now.tame ≡ true → tame_text s.now ≡ true }
+        ensures { result ≡ own_rule op s.now }
+    {
+        match op {
+            BEGIN => is_record_path_of(self.tame, s),
+            INCLUDE_ITEM | EXCLUDE_ITEM => is_pattern_of(self.tame, s),
+            EXTENDS | REFERENCE => obeys_lead(s),
+            _ => true,
+        }
+    }
 
-const TEXT_SLOTS: usize = 32;
+    // Whether a command's string lies in the text and keeps the rules of all strings.
+    #[inline(always)]
+    pub fn is_held(&self, c: Cmd) -> bool
+        ensures { result ≡ (leb (c.start + c.len) (length self.now.bytes.now) && string_rule (text_of self.now.bytes.now c)) }
+    {
+        c.start <= self.bytes.len()
+            && c.len <= self.bytes.len() - c.start
+            && is_string_of(self.tame, &self.bytes[c.start..c.start + c.len])
+    }
 
-const SLOTS: usize = 39;
-
-// The rule of its own that a command's string has.
-fn own_rule(tame: bool, op: u8, s: &[u8]) -> bool
-    requires { tame ≡ true → tame_text s.now ≡ true }
-    ensures { result ≡ own_rule op s.now }
-{
-    match op {
-        BEGIN => is_record_path_of(tame, s),
-        INCLUDE_ITEM | EXCLUDE_ITEM => is_pattern_of(tame, s),
-        EXTENDS | REFERENCE => obeys_lead(s),
-        _ => true,
+    // Whether a command's string lies in the text and keeps its rules: refusal 4 where not. Inlined, for a run of items takes twice as many instructions else.
+    #[inline(always)]
+    pub fn is_good(&self, c: Cmd) -> bool
+        ensures { result ≡ good_string self.now.bytes.now c }
+    {
+        self.is_held(c) && self.own_rule(c.op, string_of(self.bytes, c))
     }
 }
 
-// Whether a command's string lies in the text and keeps the rules of all strings.
-pub fn is_held(tame: bool, text: &[u8], c: Cmd) -> bool
-    requires { tame ≡ true → tame_text text.now ≡ true }
-    ensures { result ≡ (leb (c.start + c.len) (length text.now) && string_rule (text_of text.now c)) }
-{
-    let start = c.start;
-    let len = c.len;
-    if text.len() < start {
-        return false;
-    }
-    if text.len() - start < len {
-        return false;
-    }
-    let s = &text[start..start + len];
-    is_string_of(tame, s)
-}
-
-// Whether a command's string lies in the text and keeps its rules: refusal 4 where not.
-fn good_string(tame: bool, text: &[u8], c: Cmd) -> bool
-    requires { tame ≡ true → tame_text text.now ≡ true }
-    ensures { result ≡ good_string text.now c }
-{
-    if !is_held(tame, text, c) {
-        return false;
-    }
-    let op = c.op;
-    let s = string_of(text, c);
-    own_rule(tame, op, s)
-}
-
-// What a command counts as; SLOTS where its id or value is out of range.
-pub fn slot_of(c: Cmd) -> usize
+// What a command counts as, where its id and value are in range. That the byte is below 21 is asked here and of what looks it up in a table: a type for it would have to be opened at each.
+fn slot_of(c: Cmd) -> Option<usize>
     requires { c.op < 21 }
-    ensures { Slotted result c }
+    ensures { result ≡ slotted c }
 {
-    let op = c.op;
-    if op < FLAG {
-        return wide(op);
-    }
-    let id = wide(c.id);
-    let value = c.value;
-    if op == FLAG {
-        if 10 < id {
-            return SLOTS;
-        }
-        if 1 < value {
-            return SLOTS;
-        }
-        return FLAG_SLOTS + id;
-    }
-    if op == TEXT_OPTION {
-        if 6 < id {
-            return SLOTS;
-        }
-        return TEXT_SLOTS + id;
-    }
-    wide(op)
-}
-
-// What a command must come after in its record: where it is one of a list, what opens the list, whose byte is the one before. 0 for BEGIN.
-fn opener_of(op: u8) -> u8
-    requires { op < 21 }
-    ensures { (result ≡ get_or openers op 0) × (result < 21) }
-{
-    if op == TARGET {
-        return KEY;
-    }
-    match op {
-        BEGIN | FILE | INCLUDE_ITEM | EXCLUDE_ITEM | KEY | ROOT_DIR => op - 1,
-        _ => BEGIN,
+    match c.op {
+        FLAG if c.id <= LAST_FLAG && c.value <= 1 => Some(FLAG_SLOTS + usize::from(c.id)),
+        TEXT_OPTION if c.id <= LAST_TEXT => Some(TEXT_SLOTS + usize::from(c.id)),
+        FLAG | TEXT_OPTION => None,
+        op => Some(usize::from(op)),
     }
 }
 
-// How many of a command a record may have, of targets a key; 0 where it comes once.
-fn limit_of(op: u8) -> u8
+// What a command must come after in its record: where it is one of a list, what opens the list, whose byte is the one before. Only BEGIN comes after nothing.
+fn opener_of(op: u8) -> Option<u8>
     requires { op < 21 }
-    ensures { (result ≡ get_or limits op 0) × (result ≤ 64) }
+    ensures opener { result ≡ entry (get_or openers op 0) }
+    ensures bound { get_or openers op 0 < 21 }
 {
     match op {
-        FILE | INCLUDE_ITEM | EXCLUDE_ITEM => 64,
-        EXTENDS | TARGET | ROOT_DIR => 8,
-        KEY => 32,
-        REFERENCE => 16,
-        _ => 0,
+        BEGIN => None,
+        TARGET => Some(KEY),
+        FILE | INCLUDE_ITEM | EXCLUDE_ITEM | KEY | ROOT_DIR => Some(op - 1),
+        _ => Some(BEGIN),
     }
 }
 
-// What the command must come after is there. Of the commands before there are counts, of each slot.
-fn is_opened(counts: &[u8], op: u8) -> bool
-    requires { (op < 21) × (length counts.now ≡ 39) }
-    ensures { result ≡ (eqb (get_or openers op 0) 0 || not (eqb (has counts.now (get_or openers op 0)) 0)) }
+// How many of a command a record may have, of targets a key, where it may repeat.
+fn limit_of(op: u8) -> Option<u8>
+    requires { op < 21 }
+    ensures { result ≡ entry (get_or limits op 0) }
 {
-    let opener = wide(opener_of(op));
-    if opener == 0 {
-        return true;
+    match op {
+        FILE | INCLUDE_ITEM | EXCLUDE_ITEM => Some(64),
+        EXTENDS | TARGET | ROOT_DIR => Some(8),
+        KEY => Some(32),
+        REFERENCE => Some(16),
+        _ => None,
     }
-    let n = counts[opener];
-    n != 0
 }
 
 // The command is the first of its slot, of which there are n before, or may repeat.
@@ -151,116 +114,122 @@ fn is_fresh(op: u8, n: u8) -> bool
     requires { op < 21 }
     ensures { result ≡ (not (eqb (get_or limits op 0) 0) || eqb n 0) }
 {
-    if n == 0 {
-        return true;
-    }
-    let most = limit_of(op);
-    most != 0
+    n == 0 || limit_of(op).is_some()
 }
 
-// A target comes after its key with only targets between.
-pub fn does_follow(op: u8, last: u8) -> bool
-    ensures { result ≡ (not (eqb op target) || (eqb last key || eqb last target)) }
-{
-    if op != TARGET {
-        return true;
-    }
-    if last == KEY {
-        return true;
-    }
-    last == TARGET
+// What stands of a record: how many commands of each slot, of targets those of the last key, and the byte of the last command.
+#[derive(Drop)]
+pub struct Tally {
+    pub counts: [u8; SLOTS],
+    pub last: u8,
 }
 
-// Whether a command, whose slot is k, keeps the rules of order: refusal 3 where not.
-fn in_order(counts: &[u8], last: u8, c: Cmd, k: usize) -> bool
-    requires { (c.op < 21) × (Slotted k c × (length counts.now ≡ 39)) }
-    ensures { result ≡ in_order (has counts.now) last c }
-{
-    if SLOTS <= k {
-        return false;
-    }
-    let op = c.op;
-    if !is_opened(counts, op) {
-        return false;
-    }
-    let n = counts[k];
-    if !is_fresh(op, n) {
-        return false;
-    }
-    does_follow(op, last)
-}
-
-// Whether a command, whose slot is k, is one too many, with n records before: refusal 5. Of none that may repeat may there be fewer than 8.
-fn is_too_many(counts: &[u8], c: Cmd, k: usize, n: usize) -> bool
-    requires { (c.op < 21) × ((k < 39) × ((k ≡ slot c) × (length counts.now ≡ 39))) }
-    ensures { result ≡ too_many (has counts.now) 0 c n }
-{
-    let op = c.op;
-    if op == BEGIN {
-        return MOST_RECORDS <= n;
-    }
-    let m = counts[k];
-    if m < FEWEST {
-        return false;
-    }
-    let most = limit_of(op);
-    if most == 0 {
-        return false;
-    }
-    most <= m
-}
-
-// One command more, whose slot is k; a key counts its targets anew. The command's byte.
-pub fn push(counts: &mut [u8], c: Cmd, k: usize) -> u8
-    requires { (k < 39) × ((has counts.old k < 255) × (length counts.old ≡ 39)) }
-    ensures value { result ≡ c.op }
-    ensures counts_after { counts.new ≡ pushed counts.old c k }
-{
-    let op = c.op;
-    let n = counts[k];
-    counts[k] = n + 1;
-    if op == KEY {
-        counts[TARGET_SLOT] = 0;
-        return op;
-    }
-    op
-}
-
-// The lowest refusal of a command, 0 for none; a key is not held against those before. Before it stand n records.
-pub fn fault_of(
-    tame: bool,
-    text: &[u8],
-    counts: &[u8],
-    last: u8,
-    c: Cmd,
-    k: usize,
-    starts: &[usize],
-    lens: &[usize],
-    marks: &[u8],
-    n: usize,
-) -> u32
-    requires op_bound { (c.op < 21) × (Slotted k c × (length counts.now ≡ 39)) }
-    requires text_value { tame ≡ true → tame_text text.now ≡ true }
-    requires table { Table text.now starts.now lens.now n × Marked text.now starts.now lens.now marks.now n }
-    ensures { result ≡ number (fault_of text.now (has counts.now) last n [] (texts text.now starts.now lens.now n) c) }
-{
-    if !in_order(counts, last, c, k) {
-        return 3;
-    }
-    if !good_string(tame, text, c) {
-        return 4;
-    }
-    if is_too_many(counts, c, k, n) {
-        return 5;
-    }
-    let op = c.op;
-    if op == BEGIN {
-        let s = string_of(text, c);
-        let mark = digest(s);
-        if is_met(true, text, starts, lens, marks, n, s, mark) {
-            return 6;
+impl Tally {
+    pub fn new() -> Self
+        ensures { (result.counts ≡ replicate 39 0) × (result.last ≡ 0) }
+    {
+        Tally {
+            counts: [0; SLOTS],
+            last: 0,
         }
-        return 0;
     }
-    0
+
+    // Whether a command of the slot stands.
+    pub fn has(&self, k: usize) -> bool
+        requires { k < 39 }
+        ensures { result ≡ not (eqb (has self.now.counts k) 0) }
+    {
+        self.counts[k] != 0
+    }
+
+    // What the command must come after is there.
+    fn is_opened(&self, op: u8) -> bool
+        requires { op < 21 }
+        ensures { result ≡ (eqb (get_or openers op 0) 0 || not (eqb (has self.now.counts (get_or openers op 0)) 0)) }
+    {
+        match opener_of(op) {
+            Some(opener) => self.has(usize::from(opener)),
+            None => true,
+        }
+    }
+
+    // A target comes after its key with only targets between.
+    pub fn does_follow(&self, op: u8) -> bool
+        ensures { result ≡ (not (eqb op target) || (eqb self.now.last key || eqb self.now.last target)) }
+    {
+        op != TARGET || self.last == KEY || self.last == TARGET
+    }
+
+    // Whether a command, whose slot is k, keeps the rules of order: refusal 3 where not.
+    fn in_order(&self, c: Cmd, k: usize) -> bool
+        requires { (c.op < 21) × (slotted c ≡ Some k) }
+        ensures { result ≡ in_order (has self.now.counts) self.now.last c }
+    {
+        self.is_opened(c.op) && is_fresh(c.op, self.counts[k]) && self.does_follow(c.op)
+    }
+
+    // Whether a command, whose slot is k, is one too many, with n records before: refusal 5. Of none that may repeat may there be fewer than 8.
+    fn is_too_many(&self, c: Cmd, k: usize, n: usize) -> bool
+        requires { (c.op < 21) × (slotted c ≡ Some k) }
+        ensures { result ≡ too_many (has self.now.counts) 0 c n }
+    {
+        if c.op == BEGIN {
+            return MOST_RECORDS <= n;
+        }
+        let m = self.counts[k];
+        if m < FEWEST {
+            return false;
+        }
+        match limit_of(c.op) {
+            Some(most) => most <= m,
+            None => false,
+        }
+    }
+
+    // One command more, whose slot is k; a key counts its targets anew.
+    pub fn push(&mut self, c: Cmd, k: usize)
+        requires { (k < 39) × (has self.old.counts k < 255) }
+        ensures counts_after { self.new.counts ≡ pushed self.old.counts c k }
+        ensures last_after { self.new.last ≡ c.op }
+    {
+        self.counts[k] += 1;
+        if c.op == KEY {
+            self.counts[TARGET_SLOT] = 0;
+        }
+        self.last = c.op;
+    }
+}
+
+// Whether a record's path meets one of those before.
+fn is_given(text: &BookText<'_>, c: Cmd, rows: &[Seen]) -> bool
+    requires { AllSeen text.now.bytes.now rows.now }
+    ensures { result ≡ some_of (meets true (text_of text.now.bytes.now c)) (texts text.now.bytes.now rows.now) }
+{
+    let s = string_of(text.bytes, c);
+    is_met(true, text.bytes, rows, s, digest(s))
+}
+
+// The slot of a command in which nothing is wrong, or its lowest refusal. The rows are the paths of the records before; a key is not held against those before.
+pub fn fault_of(text: &BookText<'_>, tally: &Tally, c: Cmd, rows: &[Seen]) -> Result<usize, Fault>
+    requires op_bound { c.op < 21 }
+    requires seen { AllSeen text.now.bytes.now rows.now }
+    ensures fault { told result ≡ fault_of text.now.bytes.now (has tally.now.counts) tally.now.last (length rows.now) [] (texts text.now.bytes.now rows.now) c }
+    ensures in_slot { IfOk result (λ k. slotted c ≡ Some k) }
+{
+    let Some(k) = slot_of(c) else {
+        return Err(Fault::OutOfOrder);
+    };
+    if !tally.in_order(c, k) {
+        return Err(Fault::OutOfOrder);
+    }
+    if !text.is_good(c) {
+        return Err(Fault::BadString);
+    }
+    if tally.is_too_many(c, k, rows.len()) {
+        return Err(Fault::TooMany);
+    }
+    if c.op == BEGIN && is_given(text, c, rows) {
+        return Err(Fault::GivenBefore);
+    }
+    Ok(k)
 }

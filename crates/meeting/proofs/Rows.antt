@@ -1,10 +1,10 @@
--- Two strings that meet, and a turn of the loop over a table's rows. Assumes nothing.
+-- Two strings that meet, and the rows that one is held against. Assumes nothing.
 use mathlib.Core.Path.{◌≡◌, refl, sym, ap, ap₂, ◌∙◌}
-use mathlib.Core.List.{List, [], ◌∷◌}
-use mathlib.Core.Bool.{Bool, true, false, ◌&&◌, ◌||◌, cond, or-false, true≢false}
-use Prim.Native.Nat.{ℕ, zero, suc, ◌-◌, ◌≤◌, ◌<◌}
+use mathlib.Core.List.{List, [], ◌∷◌, ◌++◌, map, reverse, reverse-cons}
+use mathlib.Core.Bool.{Bool, true, false, ◌&&◌, ◌||◌, cond, or-false, or_assoc, true≢false}
+use Prim.Native.Nat.{ℕ, ◌<◌}
 use native.Mathlib.Omega.{arith}
-use lib.ListN.{length, get_or, take, drop, length-drop}
+use lib.ListN.{length, get_or, length-drop}
 use lib.Seq.{length-take-le}
 use lib.Dec.{eqb}
 use borrow.Author.Tests.{eq-eqb, ne_eqb, eqb-true, eqb-false}
@@ -12,41 +12,56 @@ use Rattle.text.specs.Bytes.{Text}
 use Rattle.text.specs.Text.{prefix_of, same_text, some_of}
 use Rattle.compare.specs.Compare.{covers}
 use Rattle.compare.specs.Compare.{digest_of}
-use Rattle.text.proofs.Scans.{same_length}
+use Rattle.text.proofs.Scans.{same_length, some_as_std}
 use Rattle.compare.proofs.Ways.{over_short}
 use Rattle.text.proofs.Picks.{by_test}
 use Rattle.book.specs.Rules.{clash}
-use Rattle.book.specs.State.{texts, meets, Table, Marked}
+use Rattle.book.specs.State.{string_at, texts, meets, IsSeen, AllSeen}
+use Rattle.book.specs.declared.Seen.{Seen}
+use Rattle.std.specs.List.{All, list_any}
+use Rattle.std.proofs.lemmas.List.Elements.{All-head, All-tail}
 
-module _ (P : Text → Bool) (text : Text) (starts lens : List ℕ) (i : ℕ) (h : 0 < i) (t : Text) (e : t ≡ take (get_or lens (i - 1) 0) (drop (get_or starts (i - 1) 0) text)) where
-  row : texts text starts lens i ≡ t ∷ texts text starts lens (i - 1)
-  unfolding texts
-  row = rows i h e
-    where
-      rows : (i : ℕ) → 0 < i → t ≡ take (get_or lens (i - 1) 0) (drop (get_or starts (i - 1) 0) text) → texts text starts lens i ≡ t ∷ texts text starts lens (i - 1)
-      rows zero h e = absurd (omega (arith, h))
-      rows (suc i) h e = let q : suc i - 1 ≡ i = omega arith in rw (e, q) refl
+some_append : {A : Type 0} (P : A → Bool) (k l : List A) → some_of P (k ++ l) ≡ some_of P k || some_of P l
+unfolding some_of
+some_append P [] l = refl
+some_append P (x ∷ k) l = rw (some_append P k l) (sym (or_assoc (P x) (some_of P k) (some_of P l)))
 
-  pub row_yes : P t ≡ true → some_of P (texts text starts lens i) ≡ true
-  unfolding some_of
-  row_yes y = rw (row, y) refl
+or_swap : (a b : Bool) → (a || b) ≡ (b || a)
+or_swap true true = refl
+or_swap true false = refl
+or_swap false true = refl
+or_swap false false = refl
 
-  pub row_no : P t ≡ false → some_of P (texts text starts lens i) ≡ some_of P (texts text starts lens (i - 1))
-  unfolding some_of
-  row_no y = rw (row, y) refl
+pub some_reverse : {A : Type 0} (P : A → Bool) (l : List A) → some_of P (reverse l) ≡ some_of P l
+unfolding some_of
+some_reverse P [] = refl
+some_reverse P (x ∷ l) = ap (some_of P) (reverse-cons x l) ∙ some_append P (reverse l) (x ∷ []) ∙ ap₂ ◌||◌ (some_reverse P l) (or-false (P x)) ∙ or_swap (some_of P l) (P x)
 
-pub row_none : (P : Text → Bool) (text : Text) (starts lens : List ℕ) (i : ℕ) → i ≤ 0 → false ≡ some_of P (texts text starts lens i)
-unfolding texts some_of
-row_none P text starts lens zero h = refl
-row_none P text starts lens (suc i) h = absurd (omega (arith, h))
+some_map : {A B : Type 0} (P : B → Bool) (f : A → B) (l : List A) → some_of P (map f l) ≡ some_of (λ x. P (f x)) l
+unfolding some_of
+some_map P f [] = refl
+some_map P f (x ∷ l) = rw (some_map P f l) refl
+
+-- the tests agree at each of the list
+some_same : {A : Type 0} (P Q : A → Bool) (l : List A) → All (λ x. P x ≡ Q x) l → some_of P l ≡ some_of Q l
+unfolding some_of
+some_same P Q [] h = refl
+some_same P Q (x ∷ l) h = ap₂ ◌||◌ (All-head (λ x. P x ≡ Q x) x l h) (some_same P Q l (All-tail (λ x. P x ≡ Q x) x l h))
+
+-- a test of the strings of rows, where it is a test of the rows
+pub rows_same : (text : Text) (P : Text → Bool) (Q : Seen → Bool) (rows : List Seen) → All (λ r. Q r ≡ P (string_at text r)) rows → some_of Q rows ≡ some_of P (texts text rows)
+unfolding texts
+rows_same text P Q rows h =
+    some_same Q (λ r. P (string_at text r)) rows h ∙ sym (some_map P (string_at text) (reverse rows) ∙ some_reverse (λ r. P (string_at text r)) rows)
+
+nowhere : {A : Type 0} (l : List A) → some_of (λ x. false) l ≡ false
+unfolding some_of
+nowhere [] = refl
+nowhere (x ∷ l) = nowhere l
 
 -- what holds of no row is found in none
-pub none_rows :
-    (P : Text → Bool) (text : Text) (starts lens : List ℕ) (n : ℕ) → ((i : ℕ) → i < n → P (take (get_or lens i 0) (drop (get_or starts i 0) text)) ≡ false) →
-    some_of P (texts text starts lens n) ≡ false
-unfolding texts some_of
-none_rows P text starts lens zero o = refl
-none_rows P text starts lens (suc n) o = rw (o n (omega arith), none_rows P text starts lens n (λ i h. o i (omega (arith, h)))) refl
+pub none_rows : (text : Text) (P : Text → Bool) (rows : List Seen) → All (λ r. P (string_at text r) ≡ false) rows → some_of P (texts text rows) ≡ false
+none_rows text P rows h = sym (rows_same text P (λ r. false) rows (λ k d l. sym (h k d l))) ∙ nowhere rows
 
 -- of two strings of one length, one covers the other where they are the same
 covers_same : (a b : Text) → length a ≡ length b → covers b a ≡ same_text a b
@@ -119,13 +134,20 @@ meet_never paths a b e =
     (λ f. f))
     (λ y. let p : paths ≡ false = rw y at e in sym (meet_not paths a b p (eqb-false (length a) (length b) y)))
 
--- a row that is passed over by its length and mark
-pub row_skip :
-    (paths : Bool) (s text starts lens marks : List ℕ) (n i : ℕ) → Table text starts lens n → Marked text starts lens marks n → 0 < i → i ≤ n →
-    (mark : ℕ) → mark ≡ digest_of s → (r : Bool) → r ≡ cond (eqb (length s) (get_or lens (i - 1) 0)) (eqb mark (get_or marks (i - 1) 0)) paths → r ≡ false →
-    some_of (meets paths s) (texts text starts lens i) ≡ some_of (meets paths s) (texts text starts lens (i - 1))
-row_skip paths s text starts lens marks n i t k h l mark m r d e =
-    let size : length (take (get_or lens (i - 1) 0) (drop (get_or starts (i - 1) 0) text)) ≡ get_or lens (i - 1) 0 =
-    length-take-le _ _ (omega (arith, t.within (i - 1) (omega (arith, h, l)), length-drop (get_or starts (i - 1) 0) text)) in
-    row_no (meets paths s) text starts lens i h (take (get_or lens (i - 1) 0) (drop (get_or starts (i - 1) 0) text)) refl
-    (meet_never paths s (take (get_or lens (i - 1) 0) (drop (get_or starts (i - 1) 0) text)) (rw (size, ← k.each (i - 1) (omega (arith, h, l)), ← m) (sym d ∙ e)))
+-- what the code tests of a row
+abbrev pub row_met : Bool → Text → Text → ℕ → Seen → Bool
+row_met paths text s mark r = cond (eqb (length s) r.len) (eqb mark r.mark) paths && meets paths s (string_at text r)
+
+pub row_is : (paths : Bool) (text s : Text) (mark : ℕ) → mark ≡ digest_of s → (r : Seen) → IsSeen text r → row_met paths text s mark r ≡ meets paths s (string_at text r)
+row_is paths text s mark m r h =
+    let size : length (string_at text r) ≡ r.len = length-take-le _ _ (omega (arith, h.within, length-drop r.start text)) in
+    by_test (cond (eqb (length s) r.len) (eqb mark r.mark) paths)
+    (λ y. rw y refl)
+    (λ y. rw y (sym (meet_never paths s (string_at text r) (rw (size, ← h.marked, ← m) y))))
+
+pub rows_met :
+    (paths : Bool) (text s : Text) (mark : ℕ) → mark ≡ digest_of s → (rows : List Seen) → AllSeen text rows →
+    list_any (row_met paths text s mark) (reverse rows) ≡ some_of (meets paths s) (texts text rows)
+rows_met paths text s mark m rows h =
+    some_as_std (row_met paths text s mark) (reverse rows) ∙ some_reverse (row_met paths text s mark) rows
+    ∙ rows_same text (meets paths s) (row_met paths text s mark) rows (λ k d l. row_is paths text s mark m (get_or rows k d) (h k d l))

@@ -1,10 +1,10 @@
 -- What is noted of the paths before, and what it tells. Assumes nothing.
 use mathlib.Core.Path.{◌≡◌, refl, sym, ap, subst, ◌∙◌}
-use mathlib.Core.List.{List}
+use mathlib.Core.List.{List, [], ◌∷◌, ◌++◌}
 use mathlib.Core.Bool.{true, false, ◌&&◌, cond, true≢false}
 use Prim.Native.Nat.{ℕ, ◌+◌, ◌≤◌, ◌<◌}
 use native.Mathlib.Omega.{arith}
-use lib.ListN.{length, get_or, set, take, drop, length-set, length-drop, get_or-eq_default}
+use lib.ListN.{length, get_or, set, take, length-set, length-drop}
 use lib.Seq.{length-take-le, take_all, get_or-take, get_or-set_same, get_or-set_other}
 use lib.Bits.{bit_or}
 use lib.Dec.{eqb, leb}
@@ -14,7 +14,9 @@ use Rattle.text.specs.Text.{some_of}
 use Rattle.text.proofs.Picks.{by_test}
 use Rattle.compare.specs.Compare.{covers, digest_of}
 use Rattle.compare.proofs.Ways.{over_other}
-use Rattle.book.specs.State.{texts, meets, Table}
+use Rattle.book.specs.declared.Seen.{Seen}
+use Rattle.book.specs.State.{string_at, texts, meets, AllSeen}
+use Rattle.std.proofs.lemmas.List.Elements.{All-push}
 use Rattle.meeting.specs.Signs.{Signed, Noted, Apart}
 use Rattle.strings.proofs.Gather.{or_none}
 use Rattle.strings.proofs.Tame.{and_left, and_right}
@@ -27,90 +29,59 @@ covers_slash p q h e = by_test (eqb (get_or q (length p) 0) slash) (λ y. eqb-tr
 
 -- What is told apart by the signs meets none of the rows
 
-module _ (text : Text) (starts lens digests lengths slashes : List ℕ) (n : ℕ) (t : Table text starts lens n) (g : Signed text starts lens digests lengths slashes n)
+module _ (text : Text) (rows : List Seen) (digests lengths slashes : List ℕ) (t : AllSeen text rows) (g : Signed text rows digests lengths slashes)
     (s : Text) (mark : ℕ) (m : mark ≡ digest_of s) (a : Apart digests lengths slashes s mark) where
-  abbrev row : ℕ → Text
-  row i = take (get_or lens i 0) (drop (get_or starts i 0) text)
+  module _ (k : ℕ) (d : Seen) (h : k < length rows) where
+    abbrev row : Text
+    row = string_at text (get_or rows k d)
 
-  size : (i : ℕ) → i < n → length (row i) ≡ get_or lens i 0
-  size i h = length-take-le _ _ (omega (arith, t.within i h, length-drop (get_or starts i 0) text))
+    size : length row ≡ (get_or rows k d).len
+    size = length-take-le _ _ (omega (arith, (t k d h).within, length-drop (get_or rows k d).start text))
 
-  same_long : (i : ℕ) → i < n → length s ≡ length (row i) → meets true s (row i) ≡ false
-  same_long i h e =
-      meet_never true s (row i)
-      (rw (eq-eqb (length s) (length (row i)) e)
-      (ne_eqb (digest_of s) (digest_of (row i)) (λ q. g.marks i h (ap (λ (j : ℕ). get_or digests j 0) (sym q ∙ sym m) ∙ a.unmarked))))
+    same_long : length s ≡ length row → meets true s row ≡ false
+    same_long e =
+        meet_never true s row
+        (rw (eq-eqb (length s) (length row) e)
+        (ne_eqb (digest_of s) (digest_of row) (λ q. g.marks k d h (ap (λ (j : ℕ). get_or digests j 0) (sym q ∙ sym m) ∙ a.unmarked))))
 
-  longer : (i : ℕ) → i < n → length s < length (row i) → meets true s (row i) ≡ false
-  longer i h l =
-      sym (meet_short true s (row i) (covers s (row i)) refl l refl)
-      ∙ by_test (covers s (row i)) (λ y. absurd (g.cuts i (length s) h a.short (covers_slash s (row i) l y) a.above)) (λ y. y)
+    longer : length s < length row → meets true s row ≡ false
+    longer l =
+        sym (meet_short true s row (covers s row) refl l refl)
+        ∙ by_test (covers s row) (λ y. absurd (g.cuts k d h (length s) a.short (covers_slash s row l y) a.above)) (λ y. y)
 
-  shorter : (i : ℕ) → i < n → length (row i) < length s → meets true s (row i) ≡ false
-  shorter i h l =
-      let w : length (row i) ≡ get_or lens i 0 = size i h in
-      sym (meet_long true s (row i) (covers (row i) s) refl l refl)
-      ∙ by_test (covers (row i) s)
-      (λ y. absurd (g.ends i h (omega (arith, l, w, a.short)) (ap (λ (j : ℕ). get_or lengths j 0) (sym w) ∙ a.under (length (row i)) l (covers_slash (row i) s l y))))
-      (λ y. y)
+    shorter : length row < length s → meets true s row ≡ false
+    shorter l =
+        sym (meet_long true s row (covers row s) refl l refl)
+        ∙ by_test (covers row s)
+        (λ y. absurd (g.ends k d h (omega (arith, l, size, a.short)) (ap (λ (j : ℕ). get_or lengths j 0) (sym size) ∙ a.under (length row) l (covers_slash row s l y))))
+        (λ y. y)
 
-  other : (i : ℕ) → i < n → meets true s (row i) ≡ false
-  other i h =
-      by_test (eqb (length s) (length (row i)))
-      (λ e. same_long i h (eqb-true _ _ e))
-      (λ e. by_test (leb (length s) (length (row i)))
-      (λ l. longer i h (omega (arith, leb-true (length s) (length (row i)) l, eqb-false (length s) (length (row i)) e)))
-      (λ l. shorter i h (leb-false (length s) (length (row i)) l)))
+    other : meets true s row ≡ false
+    other =
+        by_test (eqb (length s) (length row))
+        (λ e. same_long (eqb-true _ _ e))
+        (λ e. by_test (leb (length s) (length row))
+        (λ l. longer (omega (arith, leb-true (length s) (length row) l, eqb-false (length s) (length row) e)))
+        (λ l. shorter (leb-false (length s) (length row) l)))
 
-  pub none_met : some_of (meets true s) (texts text starts lens n) ≡ false
-  none_met = none_rows (meets true s) text starts lens n other
+  pub none_met : some_of (meets true s) (texts text rows) ≡ false
+  none_met = none_rows text (meets true s) rows other
 
 -- A row more
 
-module _ (text : Text) (starts lens digests lengths slashes : List ℕ) (n start len mark : ℕ) (g : Signed text starts lens digests lengths slashes n) (digests' lengths' slashes' : List ℕ)
-    (o : Noted digests lengths slashes (take len (drop start text)) mark digests' lengths' slashes') (m : mark ≡ digest_of (take len (drop start text))) (w : start + len ≤ length text) (rs : n < length starts) (rl : n < length lens) where
-  whole : length (take len (drop start text)) ≡ len
-  whole = length-take-le _ _ (omega (arith, w, length-drop start text))
+module _ (text : Text) (rows : List Seen) (digests lengths slashes : List ℕ) (r : Seen) (mark : ℕ) (g : Signed text rows digests lengths slashes) (digests' lengths' slashes' : List ℕ)
+    (o : Noted digests lengths slashes (string_at text r) mark digests' lengths' slashes') (m : mark ≡ digest_of (string_at text r)) (w : r.start + r.len ≤ length text) where
+  whole : length (string_at text r) ≡ r.len
+  whole = length-take-le _ _ (omega (arith, w, length-drop r.start text))
 
-  earlier : (i : ℕ) → i < n + 1 → (i ≡ n → ⊥) → i < n
-  earlier i h d = by_test (leb n i) (λ e. absurd (d (omega (arith, h, leb-true n i e)))) (λ e. leb-false n i e)
-
-  marks_on : (i : ℕ) → i < n + 1 → get_or digests' (digest_of (take (get_or (set lens n len) i 0) (drop (get_or (set starts n start) i 0) text))) 0 ≡ 0 → ⊥
-  marks_on i h z =
-      by_test (eqb i n)
-      (λ y.
-      let b : get_or (set lens n len) i 0 ≡ len = ap (λ (j : ℕ). get_or (set lens n len) j 0) (eqb-true i n y) ∙ get_or-set_same lens n len 0 rl in
-      let a : get_or (set starts n start) i 0 ≡ start = ap (λ (j : ℕ). get_or (set starts n start) j 0) (eqb-true i n y) ∙ get_or-set_same starts n start 0 rs in
-      o.marked (rw m (rw (a, b) at z)))
-      (λ y.
-      let b : get_or (set lens n len) i 0 ≡ get_or lens i 0 = get_or-set_other lens n i len 0 (eqb-false i n y) in
-      let a : get_or (set starts n start) i 0 ≡ get_or starts i 0 = get_or-set_other starts n i start 0 (eqb-false i n y) in
-      g.marks i (earlier i h (eqb-false i n y)) (o.digests_stay _ (rw (a, b) at z)))
-
-  ends_on : (i : ℕ) → i < n + 1 → get_or (set lens n len) i 0 < 513 → get_or lengths' (get_or (set lens n len) i 0) 0 ≡ 0 → ⊥
-  ends_on i h l z =
-      by_test (eqb i n)
-      (λ y.
-      let b : get_or (set lens n len) i 0 ≡ len = ap (λ (j : ℕ). get_or (set lens n len) j 0) (eqb-true i n y) ∙ get_or-set_same lens n len 0 rl in
-      o.end (omega (arith, whole, b, l)) (ap (λ (j : ℕ). get_or lengths' j 0) (whole ∙ sym b) ∙ z))
-      (λ y.
-      let b : get_or (set lens n len) i 0 ≡ get_or lens i 0 = get_or-set_other lens n i len 0 (eqb-false i n y) in
-      g.ends i (earlier i h (eqb-false i n y)) (omega (arith, b, l)) (o.lengths_stay (get_or lens i 0) (ap (λ (j : ℕ). get_or lengths' j 0) (sym b) ∙ z)))
-
-  cuts_on : (i j : ℕ) → i < n + 1 → j < 513 → get_or (take (get_or (set lens n len) i 0) (drop (get_or (set starts n start) i 0) text)) j 0 ≡ slash → get_or slashes' j 0 ≡ 0 → ⊥
-  cuts_on i j h l e z =
-      by_test (eqb i n)
-      (λ y.
-      let b : get_or (set lens n len) i 0 ≡ len = ap (λ (j : ℕ). get_or (set lens n len) j 0) (eqb-true i n y) ∙ get_or-set_same lens n len 0 rl in
-      let a : get_or (set starts n start) i 0 ≡ start = ap (λ (j : ℕ). get_or (set starts n start) j 0) (eqb-true i n y) ∙ get_or-set_same starts n start 0 rs in
-      o.cuts j l (rw (a, b) at e) z)
-      (λ y.
-      let b : get_or (set lens n len) i 0 ≡ get_or lens i 0 = get_or-set_other lens n i len 0 (eqb-false i n y) in
-      let a : get_or (set starts n start) i 0 ≡ get_or starts i 0 = get_or-set_other starts n i start 0 (eqb-false i n y) in
-      g.cuts i j (earlier i h (eqb-false i n y)) l (rw (a, b) at e) (o.slashes_stay j z))
-
-  pub signed_put : Signed text (set starts n start) (set lens n len) digests' lengths' slashes' (n + 1)
-  signed_put = record { sizes = o.sizes; marks = marks_on; ends = ends_on; cuts = cuts_on }
+  pub signed_put : Signed text (rows ++ r ∷ []) digests' lengths' slashes'
+  signed_put =
+      record {
+        sizes = o.sizes;
+        marks = All-push (λ r. get_or digests' (digest_of (string_at text r)) 0 ≡ 0 → ⊥) rows r (λ k d h z. g.marks k d h (o.digests_stay _ z)) (λ z. o.marked (ap (λ (j : ℕ). get_or digests' j 0) m ∙ z));
+        ends = All-push (λ r. r.len < 513 → get_or lengths' r.len 0 ≡ 0 → ⊥) rows r (λ k d h l z. g.ends k d h l (o.lengths_stay _ z)) (λ l z. o.end (omega (arith, whole, l)) (ap (λ (j : ℕ). get_or lengths' j 0) whole ∙ z));
+        cuts = All-push (λ r. (j : ℕ) → j < 513 → get_or (string_at text r) j 0 ≡ slash → get_or slashes' j 0 ≡ 0 → ⊥) rows r (λ k d h j l e z. g.cuts k d h j l e (o.slashes_stay j z)) (λ j l e z. o.cuts j l e z);
+      }
 
 -- The loop over the bytes of a path
 
@@ -121,10 +92,6 @@ pub record Noting (lengths slashes₀ : List ℕ) (s : Text) (slashes : List ℕ
   pub clean : met ≡ 0 → (j : ℕ) → j < i → get_or s j 0 ≡ slash → get_or lengths j 0 ≡ 0
   pub done : (j : ℕ) → j < i → get_or slashes j 0 ≡ cond (eqb (get_or s j 0) slash) 1 (get_or slashes₀ j 0)
   pub rest : (j : ℕ) → i ≤ j → get_or slashes j 0 ≡ get_or slashes₀ j 0
-
-pub noting_none : (lengths slashes : List ℕ) (s : Text) → length slashes ≡ 513 → Noting lengths slashes s slashes 0 0
-noting_none lengths slashes s e =
-    record { place = omega arith; size = e; clean = λ z j h. absurd (omega (arith, h)); done = λ j h. absurd (omega (arith, h)); rest = λ j h. refl }
 
 module _ (lengths slashes₀ : List ℕ) (s : Text) (slashes : List ℕ) (met i : ℕ) (v : Noting lengths slashes₀ s slashes met i) where
   module _ (h : i < length s) (few : length s ≤ 513) (f x : ℕ) (d : f ≡ cond (eqb (get_or s i 0) slash) (get_or lengths i 0) 0) (e : x ≡ cond (eqb (get_or s i 0) slash) 1 (get_or slashes i 0)) where
@@ -155,18 +122,6 @@ module _ (lengths slashes₀ : List ℕ) (s : Text) (slashes : List ℕ) (met i 
               (λ y. get_or-set_other slashes i j x 0 (eqb-false j i y) ∙ v.done j (before j l (eqb-false j i y)));
           rest = λ j l. get_or-set_other slashes i j x 0 (λ q. absurd (omega (arith, q, l))) ∙ v.rest j (omega (arith, l));
         }
-
-  module _ (h : length s ≤ i) where
-    pub noting_clean : eqb met 0 ≡ true → (j : ℕ) → j < length s → get_or s j 0 ≡ slash → get_or lengths j 0 ≡ 0
-    noting_clean z j l = v.clean (eqb-true met 0 z) j (omega (arith, l, h))
-
-    pub noting_done : (j : ℕ) → get_or slashes j 0 ≡ cond (eqb (get_or s j 0) slash) 1 (get_or slashes₀ j 0)
-    noting_done j =
-        by_test (leb (length s) j)
-        (λ y.
-        let l : length s ≤ j = leb-true (length s) j y in
-        v.rest j (omega (arith, l, v.place)) ∙ sym (rw (get_or-eq_default s 0 l) refl))
-        (λ y. v.done j (omega (arith, leb-false (length s) j y, h)))
 
 -- A path is noted
 

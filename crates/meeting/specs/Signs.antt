@@ -1,15 +1,18 @@
 -- What the code notes of the paths before, so that most paths are told to meet none of them without a look at each. This serves the code alone: what meets is said
 -- in the book's definitions.
-use Rattle.std.specs.Prelude.{ℕ, ◌<◌, List, ◌≡◌, length, get_or, take, drop}
+use Rattle.std.specs.Prelude.{ℕ, ◌<◌, List, ◌≡◌, length, get_or}
+use Rattle.std.specs.List.{All}
+use Rattle.book.specs.declared.Seen.{Seen}
+use Rattle.book.specs.State.{string_at}
 use Rattle.text.specs.Bytes.{Text, slash}
 use Rattle.compare.specs.Compare.{digest_of}
 
--- of the path of each of the first n rows the digest and the length are noted, and each place where it has a slash, as far as the tables reach
-pub record Signed (text starts lens digests lengths slashes : List ℕ) (n : ℕ) : Type 0 where
+-- of the path of each row the digest and the length are noted, and each place where it has a slash, as far as the tables reach
+pub record Signed (text : Text) (rows : List Seen) (digests lengths slashes : List ℕ) : Type 0 where
   pub sizes : (length digests ≡ 256) × ((length lengths ≡ 513) × (length slashes ≡ 513))
-  pub marks : (i : ℕ) → i < n → get_or digests (digest_of (take (get_or lens i 0) (drop (get_or starts i 0) text))) 0 ≡ 0 → ⊥
-  pub ends : (i : ℕ) → i < n → get_or lens i 0 < 513 → get_or lengths (get_or lens i 0) 0 ≡ 0 → ⊥
-  pub cuts : (i j : ℕ) → i < n → j < 513 → get_or (take (get_or lens i 0) (drop (get_or starts i 0) text)) j 0 ≡ slash → get_or slashes j 0 ≡ 0 → ⊥
+  pub marks : All (λ r. get_or digests (digest_of (string_at text r)) 0 ≡ 0 → ⊥) rows
+  pub ends : All (λ r. r.len < 513 → get_or lengths r.len 0 ≡ 0 → ⊥) rows
+  pub cuts : All (λ r. (j : ℕ) → j < 513 → get_or (string_at text r) j 0 ≡ slash → get_or slashes j 0 ≡ 0 → ⊥) rows
 
 -- s, whose digest is the mark, is noted, and what was noted before stays so
 pub record Noted (digests lengths slashes : List ℕ) (s : Text) (mark : ℕ) (digests' lengths' slashes' : List ℕ) : Type 0 where

@@ -19,64 +19,39 @@ const HASH: u8 = b'#';
 // The places that are looked at in one step.
 const BLOCK: usize = 16;
 
-// Below this length a path is too short for a block: its places, and the three bytes behind the last.
+// A block's places, and the three bytes behind the last. A shorter path has no block.
 const SHORT: usize = 19;
 
 // Whether x is none of `* ? #`.
 fn is_free(x: u8) -> bool
     ensures { result ≡ none_of (bytes "*?#") x }
 {
-    if x == STAR {
-        return false;
-    }
-    if x == QUESTION {
-        return false;
-    }
-    x != HASH
+    !matches!(x, STAR | QUESTION | HASH)
 }
 
 // Whether the last three bytes of a path are none of `* ? #`, with a name behind each slash.
 fn ends_free(x: u8, y: u8, z: u8) -> bool
     ensures { result ≡ free_names (x ∷ y ∷ z ∷ []) }
 {
-    if !is_free(x) {
-        return false;
-    }
-    if !is_free(y) {
-        return false;
-    }
-    if !is_free(z) {
-        return false;
-    }
-    let last = no_name(z, SLASH, SLASH, SLASH);
-    let bad = no_name(x, y, z, SLASH) | (no_name(y, z, SLASH, SLASH) | last);
-    bad == 0
+    is_free(x)
+        && is_free(y)
+        && is_free(z)
+        && !no_name(x, y, z, SLASH)
+        && !no_name(y, z, SLASH, SLASH)
+        && !no_name(z, SLASH, SLASH, SLASH)
 }
 
-// What follows the first k bytes of s, which has as many: nothing is tested.
-fn past(s: &[u8], k: usize) -> &[u8]
-    requires { k ≤ length s.now }
-    ensures { result.now ≡ drop k s.now }
-{
-    &s[k..]
-}
-
-// 0 where none of the first sixteen places of s has one of `* ? #` or a slash with no name behind it: each four bytes in a row are looked at.
-fn bad_block(s: &[u8]) -> u8
+// Whether none of the first sixteen places of s has one of `* ? #` or a slash with no name behind it: each four bytes in a row are looked at, by
+// a loop that never leaves early.
+fn is_block_free(s: &[u8]) -> bool
     requires { 19 ≤ length s.now }
-    ensures { free_names s.now ≡ eqb result 0 && free_names (drop 16 s.now) }
+    ensures { free_names s.now ≡ result && free_names (drop 16 s.now) }
 {
-    let second = past(s, 1);
-    let third = past(s, 2);
-    let fourth = past(s, 3);
-    let mut bad: u8 = 0;
-    let mut i = 0;
-    while i < BLOCK {
-        let mark = one_of(s[i], STAR, QUESTION, HASH);
-        bad = bad | (mark | no_name(s[i], second[i], third[i], fourth[i]));
-        i += 1;
+    let mut bad = false;
+    for i in 3..SHORT {
+        bad |= one_of(s[i - 3], STAR, QUESTION, HASH) | no_name(s[i - 3], s[i - 2], s[i - 1], s[i]);
     }
-    bad
+    !bad
 }
 
 // Whether s has none of `* ? #` and a name behind each slash, in one pass by whole blocks: but for the last three bytes, none is looked at
@@ -86,17 +61,12 @@ fn has_free_names(s: &[u8]) -> bool
     ensures { result ≡ free_names s.now }
 {
     let n = s.len() - SHORT;
-    let mut i = 0;
-    while i < n {
-        if bad_block(past(s, i)) != 0 {
+    for i in (0..n).step_by(BLOCK) {
+        if !is_block_free(&s[i..]) {
             return false;
         }
-        i += BLOCK;
     }
-    if bad_block(past(s, n)) != 0 {
-        return false;
-    }
-    ends_free(s[n + 16], s[n + 17], s[n + 18])
+    is_block_free(&s[n..]) && ends_free(s[n + BLOCK], s[n + BLOCK + 1], s[n + BLOCK + 2])
 }
 
 // Whether s, which has none of `{ } [ ] !`, may be the path of a record.
@@ -104,29 +74,17 @@ fn is_bare_path(s: &[u8]) -> bool
     requires { each_of (none_of (bytes "{}[]!")) s.now ≡ true }
     ensures { result ≡ record_path s.now }
 {
-    if s.len() <= 1 {
-        return false;
-    }
     if SHORT <= s.len() {
-        if !is_absolute(s) {
-            return false;
-        }
-        return has_free_names(s);
+        return is_absolute(s) && has_free_names(s);
     }
-    if !lacks(s, STAR, QUESTION, HASH) {
-        return false;
-    }
-    is_normal(s)
+    1 < s.len() && lacks(s, STAR, QUESTION, HASH) && is_normal(s)
 }
 
 // Whether s may be the path of a record.
 pub fn is_record_path(s: &[u8]) -> bool
     ensures { result ≡ record_path s.now }
 {
-    if !lacks_brackets(s) {
-        return false;
-    }
-    is_bare_path(s)
+    lacks_brackets(s) && is_bare_path(s)
 }
 
 // The same for a part of a text that may be known to be tame: then no bracket is looked for.
@@ -134,31 +92,21 @@ pub fn is_record_path_of(tame: bool, s: &[u8]) -> bool
     requires { tame ≡ true → tame_text s.now ≡ true }
     ensures { result ≡ record_path s.now }
 {
-    if tame {
-        return is_bare_path(s);
-    }
-    is_record_path(s)
+    (tame || lacks_brackets(s)) && is_bare_path(s)
 }
 
 // Whether s may be an extends entry or a reference: from the root, it is normal.
+#[tactic(auto, unfolding(crate::specs::Paths::lead_rule))]
 pub fn obeys_lead(s: &[u8]) -> bool
     ensures { result ≡ lead_rule s.now }
 {
-    if !is_absolute(s) {
-        return true;
-    }
-    is_normal(s)
+    !is_absolute(s) || is_normal(s)
 }
 
 // Whether s may be asked about.
+#[tactic(auto, using(crate::proofs::Ways::asked_by))]
 pub fn is_asked_path(s: &[u8]) -> bool
     ensures { result ≡ asked_path s.now }
 {
-    if !is_string(s) {
-        return false;
-    }
-    if !lacks(s, QUESTION, HASH, HASH) {
-        return false;
-    }
-    is_normal(s)
+    is_string(s) && lacks(s, QUESTION, HASH, HASH) && is_normal(s)
 }

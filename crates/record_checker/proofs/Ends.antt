@@ -1,6 +1,7 @@
 -- A record's END, a key given before, and what else the record checker looks at. Assumes nothing.
 use mathlib.Core.Path.{◌≡◌, refl, sym, ap, subst, ◌∙◌}
 use mathlib.Core.List.{List, []}
+use Rattle.std.specs.Prelude.{Some, None}
 use mathlib.Core.Bool.{Bool, true, false, not, ◌&&◌, ◌||◌, true≢false}
 use Prim.Native.Nat.{ℕ, ◌+◌, ◌≤◌, ◌<◌}
 use native.Mathlib.Omega.{arith}
@@ -13,40 +14,23 @@ use Rattle.text.specs.Text.{each_of, some_of}
 use Rattle.strings.specs.Strings.{string_rule}
 use Rattle.strings.proofs.Tame.{and_left, and_right}
 use Rattle.book.specs.declared.Cmd.{Cmd}
-use Rattle.book.specs.declared.Cursor.{Cursor}
-use Rattle.book.specs.declared.Step.{Step}
-use Rattle.book.specs.declared.Step.TheVariants.{Command}
+use Rattle.book.specs.declared.Stop.{Stop}
+use Rattle.std.specs.Prelude.{Result, Ok}
 use Rattle.book.specs.Answer.{refused}
 use Rattle.book.specs.Command.{begin, key, end, word, width_of, operands, decode}
 use Rattle.book.specs.Rules.{openers, opened, text_of, own_rule, good_string, fault_of}
 use Rattle.book.specs.Book.{judge}
 use Rattle.book.specs.Checks.{Held, ClosedAs}
 use Rattle.book.specs.Steps.{step_at}
-use Rattle.book.specs.State.{has, pushed, Slotted, texts, meets, number}
+use Rattle.book.specs.declared.Seen.{Seen}
+use Rattle.book.specs.State.{has, pushed, slotted, texts, meets}
 use Rattle.book.proofs.Steps.{step_command}
 use Rattle.verdicts.proofs.Turns.{Sofar, Clear, clear, was_opened, end_first, keys_few, turn_met, turn_long, turn_closed, turn_on, clear_on}
 use Rattle.usual.specs.Usual.{key_fine, Taken, passed, keyed, barred}
 use Rattle.usual.proofs.Passing.{clear_still}
 use Rattle.usual.proofs.Keys.{Standing, standing, was_given}
-use Rattle.record_checker.proofs.Passes.{counted}
 
--- whether a record ends, by the tests of the code
-module _ (part : Text) (at : ℕ) (ns : List ℕ) where
-  pub ended_none : length part ≤ at → false ≡ (not (leb (length part) at) && (eqb (get_or part at 0) end && (not (eqb (has ns begin) 0) && eqb (has ns end) 0)))
-  ended_none h = rw (le-leb (length part) at h) refl
-
-  module _ (h : at < length part) where
-    pub ended_other : (get_or part at 0 ≡ 20 → ⊥) → false ≡ (not (leb (length part) at) && (eqb (get_or part at 0) end && (not (eqb (has ns begin) 0) && eqb (has ns end) 0)))
-    ended_other n = rw (lt-leb (length part) at h, ne_eqb _ _ n) refl
-
-    module _ (e : get_or part at 0 ≡ 20) where
-      pub ended_early : get_or ns 1 0 ≡ 0 → false ≡ (not (leb (length part) at) && (eqb (get_or part at 0) end && (not (eqb (has ns begin) 0) && eqb (has ns end) 0)))
-      ended_early z = rw (lt-leb (length part) at h, e, z) refl
-
-      pub ended_on : (get_or ns 1 0 ≡ 0 → ⊥) → eqb (get_or ns 20 0) 0 ≡ (not (leb (length part) at) && (eqb (get_or part at 0) end && (not (eqb (has ns begin) 0) && eqb (has ns end) 0)))
-      ended_on z = rw (lt-leb (length part) at h, e, ne_eqb _ _ z) refl
-
-module _ (part : Text) (base : ℕ) (text : Text) (ps pl : List ℕ) (n : ℕ) {ns : List ℕ} {last : ℕ} {ks kl km : List ℕ} {m at : ℕ} (s : Sofar part base text ps pl n ns last ks kl km m at)
+module _ (part : Text) (base : ℕ) (text : Text) (rows : List Seen) {ns : List ℕ} {last : ℕ} {ks : List Seen} {at : ℕ} (s : Sofar part base text rows ns last ks at)
     (r : Bool) (rv : r ≡ (not (leb (length part) at) && (eqb (get_or part at 0) end && (not (eqb (has ns begin) 0) && eqb (has ns end) 0)))) where
   -- END, in a record that has begun
   module _ (yes : r ≡ true) where
@@ -69,7 +53,7 @@ module _ (part : Text) (base : ℕ) (text : Text) (ps pl : List ℕ) (n : ℕ) {
     unfolding operands
     op_is = sym (rw (drop-cons part at 0 inside) byte)
 
-    reads : step_at part at ≡ Command (operands 0 (drop at part)) (record { at = at + 0 + 1 })
+    reads : step_at part at ≡ Ok (operands 0 (drop at part), at + 0 + 1)
     unfolding width_of
     reads = sym (step_command part at 0 (operands 0 (drop at part)) inside (sym (ap width_of byte)) (λ e. absurd (omega (arith, e))) (omega (arith, inside)) refl)
 
@@ -81,25 +65,24 @@ module _ (part : Text) (base : ℕ) (text : Text) (ps pl : List ℕ) (n : ℕ) {
     unfolding good_string operands text_of string_rule each_of
     good = rw (le-leb (0 + 0) (length text) (omega arith)) (bare _ (rw (drop-cons part at 0 inside) byte))
 
-    nothing : 0 ≡ number (fault_of text (has ns) last n (texts text ks kl m) (texts text ps pl n) (operands 0 (drop at part)))
-    nothing =
-        sym (ap number
-        (clear_still text ns last (operands 0 (drop at part)) end op_is (omega arith) (λ e. absurd (omega (arith, e))) (λ e. absurd (omega (arith, e))) (λ e. absurd (omega (arith, e)))
-        refl begun (omega (arith, first)) good (λ e. absurd (omega (arith, e))) n (texts text ks kl m) (texts text ps pl n)))
+    clear_end : fault_of text (has ns) last (length rows) (texts text ks) (texts text rows) (operands 0 (drop at part)) ≡ None
+    clear_end =
+        clear_still text ns last (operands 0 (drop at part)) end op_is (omega arith) (λ e. absurd (omega (arith, e))) (λ e. absurd (omega (arith, e))) (λ e. absurd (omega (arith, e)))
+        refl begun (omega (arith, first)) good (λ e. absurd (omega (arith, e))) (length rows) (texts text ks) (texts text rows)
 
     pub ended_long : 4 < length part
-    ended_long = turn_long part base text ps pl n s (sym reads) refl nothing refl (sym op_is)
+    ended_long = turn_long part base text rows s (sym reads) refl clear_end (sym op_is)
 
-    pub ended_closed : (start len : ℕ) → start ≡ word part 1 → len ≡ word part 3 → ClosedAs part base text ps pl n (base + at + 1) start len
+    pub ended_closed : (start len : ℕ) → start ≡ word part 1 → len ≡ word part 3 → ClosedAs part base text rows (base + at + 1) start len
     ended_closed start len a b =
-        subst (λ (p : ℕ). ClosedAs part base text ps pl n p start len) (omega arith)
-        (turn_closed part base text ps pl n s (sym reads) refl nothing refl (sym op_is) start len a b)
+        subst (λ (p : ℕ). ClosedAs part base text rows p start len) (omega arith)
+        (turn_closed part base text rows s (sym reads) refl clear_end (sym op_is) start len a b)
 
   -- any other command, in which nothing is wrong but that it may be a key given before
-  module _ (no : r ≡ false) {o : Step} (is : o ≡ step_at part at) {c : Cmd} {nx : Cursor} (e : o ≡ Command c nx)
-      {f : ℕ} (d : f ≡ number (fault_of text (has ns) last n [] (texts text ps pl n) c)) (z : f ≡ 0) where
-    sound : Clear text (has ns) last n [] (texts text ps pl n) c
-    sound = clear text (has ns) last n [] (texts text ps pl n) c (sym d ∙ z)
+  module _ (no : r ≡ false) {o : Result (Cmd × ℕ) Stop} (is : o ≡ step_at part at) {c : Cmd} {nx : ℕ} (e : o ≡ Ok (c, nx))
+      (d : fault_of text (has ns) last (length rows) [] (texts text rows) c ≡ None) where
+    sound : Clear text (has ns) last (length rows) [] (texts text rows) c
+    sound = clear text (has ns) last (length rows) [] (texts text rows) c d
 
     stands : Standing part at c nx (sym e ∙ is)
     stands = standing part at c nx (sym e ∙ is)
@@ -115,37 +98,34 @@ module _ (part : Text) (base : ℕ) (text : Text) (ps pl : List ℕ) (n : ℕ) {
         true≢false (sym y ∙ no)
 
 -- a key that was not taken is not fine
-pub left_key : (part text : Text) (ns : List ℕ) (last at : ℕ) (ks kl km : List ℕ) {ns' : List ℕ} {to : ℕ} {ks' kl' km' : List ℕ} → Taken part text ns last at ks kl km ns' to ks' kl' km' → to ≤ at →
-    (c : Cmd) (nx : Cursor) → Command c nx ≡ step_at part at → c.op ≡ key → key_fine part at text ns' ks' kl' ≡ false
-left_key part text ns last at ks kl km (passed o p) h c nx is k = absurd (o (sym (standing part at c nx is).byte ∙ k))
-left_key part text ns last at ks kl km (keyed byte fine) h c nx is k = absurd (omega (arith, h))
-left_key part text ns last at ks kl km (barred f) h c nx is k = f
+pub left_key : (part text : Text) (ns : List ℕ) (last at : ℕ) (ks : List Seen) {ns' : List ℕ} {last' to : ℕ} {ks' : List Seen} → Taken part text ns last at ks ns' last' to ks' → to ≤ at →
+    (c : Cmd) (nx : ℕ) → Ok (c, nx) ≡ step_at part at → c.op ≡ key → key_fine part at text ns' ks' ≡ false
+left_key part text ns last at ks (passed o p) h c nx is k = absurd (o (sym (standing part at c nx is).byte ∙ k))
+left_key part text ns last at ks (keyed byte fine) h c nx is k = absurd (omega (arith, h))
+left_key part text ns last at ks (barred f) h c nx is k = f
 
-module _ (part : Text) (base : ℕ) (text : Text) (ps pl : List ℕ) (n : ℕ) {ns : List ℕ} {last : ℕ} {ks kl km : List ℕ} {at : ℕ} (s : Sofar part base text ps pl n ns last ks kl km (has ns key) at)
-    {o : Step} (is : o ≡ step_at part at) {c : Cmd} {nx : Cursor} (e : o ≡ Command c nx)
-    {f : ℕ} (d : f ≡ number (fault_of text (has ns) last n [] (texts text ps pl n) c)) (z : f ≡ 0) where
-  whole : Clear text (has ns) last n [] (texts text ps pl n) c
-  whole = clear text (has ns) last n [] (texts text ps pl n) c (sym d ∙ z)
+module _ (part : Text) (base : ℕ) (text : Text) (rows : List Seen) {ns : List ℕ} {last : ℕ} {ks : List Seen} {at : ℕ} (s : Sofar part base text rows ns last ks at)
+    {o : Result (Cmd × ℕ) Stop} (is : o ≡ step_at part at) {c : Cmd} {nx : ℕ} (e : o ≡ Ok (c, nx))
+    (d : fault_of text (has ns) last (length rows) [] (texts text rows) c ≡ None) where
+  whole : Clear text (has ns) last (length rows) [] (texts text rows) c
+  whole = clear text (has ns) last (length rows) [] (texts text rows) c d
 
   -- a key given before
-  module _ (k : c.op ≡ key) (left : key_fine part at text ns ks kl ≡ false) where
+  module _ (k : c.op ≡ key) (left : key_fine part at text ns ks ≡ false) where
     in_paths : not (eqb (has ns 10) 0) ≡ true
     unfolding opened
     in_paths = subst (λ (i : ℕ). (eqb (get_or openers i 0) 0 || not (eqb (has ns (get_or openers i 0)) 0)) ≡ true) k (was_opened (has ns) last c whole.order)
 
-    met : some_of (meets false (text_of text c)) (texts text ks kl (has ns key)) ≡ true
-    met = was_given part at c nx (sym e ∙ is) k text ns ks kl left in_paths (keys_few (has ns) last c whole.order n k whole.few) whole.string
+    met : some_of (meets false (text_of text c)) (texts text ks) ≡ true
+    met = was_given part at c nx (sym e ∙ is) k text ns ks left in_paths (keys_few (has ns) last c whole.order (length rows) k whole.few) whole.string
 
-    pub key_refused : (records : List (List Cmd)) → Held text ps pl n records → judge text (record { records = records; here = [] }) (decode 0 base part) ≡ refused 6 (base + at)
-    key_refused = turn_met part base text ps pl n s is e d z k met
+    pub key_refused : (records : List (List Cmd)) → Held text rows records → judge text (record { records = records; here = [] }) (decode 0 base part) ≡ refused 6 (base + at)
+    key_refused = turn_met part base text rows s is e d k met
 
   -- any other command
   module _ (no_key : c.op ≡ key → ⊥) where
-    pub clear_here : 0 ≡ number (fault_of text (has ns) last n (texts text ks kl (has ns key)) (texts text ps pl n) c)
-    clear_here = clear_on part base text ps pl n s is e d z no_key
+    pub clear_here : fault_of text (has ns) last (length rows) (texts text ks) (texts text rows) c ≡ None
+    clear_here = clear_on part base text rows s is e d no_key
 
-    pub looked_on : {k : ℕ} → Slotted k c → (c.op ≡ end → ⊥) → (ns' : List ℕ) → ns' ≡ pushed ns c k → (last' : ℕ) → last' ≡ c.op → Sofar part base text ps pl n ns' last' ks kl km (has ns' key) nx.at
-    looked_on sl q ns' y last' x =
-        counted part base text ps pl n
-        (turn_on part base text ps pl n s is e clear_here refl sl ks kl km (has ns key)
-        (rw (ne_eqb _ _ no_key) refl) (rw (ne_eqb _ _ no_key) refl) (rw (ne_eqb _ _ no_key) refl) (rw (ne_eqb _ _ no_key) refl) q ns' y last' x)
+    pub looked_on : {k : ℕ} → slotted c ≡ Some k → (c.op ≡ end → ⊥) → (ns' : List ℕ) → ns' ≡ pushed ns c k → (last' : ℕ) → last' ≡ c.op → Sofar part base text rows ns' last' ks nx
+    looked_on sl q ns' y last' x = turn_on part base text rows s is e clear_here sl ks (rw (ne_eqb _ _ no_key) refl) q ns' y last' x

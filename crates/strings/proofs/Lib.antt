@@ -1,5 +1,4 @@
 -- Laws of the definitions of specs/, and the edges of the rules as one table.
 pub mod Gather
-pub mod Rules
 pub mod Tame
 pub mod Cases

@@ -1,19 +1,18 @@
 -- A tame text, and the rules of the strings of one. Assumes nothing.
-use mathlib.Core.Path.{◌≡◌, refl, sym, ap, ap₂, ◌∙◌}
+use mathlib.Core.Path.{◌≡◌, refl, sym, ap, ◌∙◌}
 use mathlib.Core.List.{[], ◌∷◌}
 use mathlib.Core.Bool.{Bool, true, false, not, cond, ◌&&◌, and-true, and-false, true≢false}
-use Prim.Native.Nat.{ℕ, zero, suc, ◌≤◌, ◌<◌}
+use Prim.Native.Nat.{ℕ, zero, suc, ◌<◌}
 use native.Mathlib.Omega.{arith}
 use lib.ListN.{length, take, drop}
 use lib.Dec.{eqb, leb}
-use lib.Bits.{bit_or, bit_xor}
-use borrow.Author.Tests.{le-leb, lt-leb, leb-true, ne_eqb, eqb-true, eqb-false}
+use lib.Bits.{bit_or}
+use borrow.Author.Tests.{le-leb, leb-true, ne_eqb, eqb-true, eqb-false}
 use Rattle.text.specs.Bytes.{Text, bytes}
 use Rattle.text.specs.Text.{some_of, each_of}
 use Rattle.text.proofs.Picks.{by_test}
 use Rattle.strings.specs.Strings.{none_of, plain_byte, string_rule}
-use Rattle.strings.specs.Scan.{flag, within, tame_byte, tame_text}
-use Rattle.strings.proofs.Gather.{or_none, flag_none, not_flag}
+use Rattle.strings.specs.Scan.{within, tame_byte, tame_text}
 
 pub and_left : (a b : Bool) → (a && b) ≡ true → a ≡ true
 and_left true b e = refl
@@ -70,18 +69,6 @@ pub tame_part : (s : Text) (a b : ℕ) → tame_text s ≡ true → tame_text (t
 unfolding tame_text
 tame_part s a b e = each_take tame_byte b (drop a s) (each_drop tame_byte a s e)
 
--- the ways out of the code's tests of a byte
-
-module _ (x low high : ℕ) where
-  pub below_range : x < low → 0 ≡ flag (within low high x)
-  below_range h = rw (lt-leb low x h) refl
-
-  pub above_range : low ≤ x → high < x → 0 ≡ flag (within low high x)
-  above_range l h = rw (le-leb low x l, lt-leb x high h) refl
-
-  pub in_range_lem : low ≤ x → x ≤ high → 1 ≡ flag (within low high x)
-  in_range_lem l h = rw (le-leb low x l, le-leb x high h) refl
-
 -- a rule of each number below n
 each_below : (ℕ → Bool) → ℕ → Bool
 each_below P zero = true
@@ -117,24 +104,16 @@ ranges_same x h = told (one_range x) (two_ranges x) (below_each same_ranges 0x7F
     told false true e = e
     told false false e = refl
 
-pub wild_flags : (x f g : ℕ) → f ≡ flag (within 0x22 0x7E x) → g ≡ flag (within 0x7B 0x7D (bit_or x 0x20)) → eqb (bit_or (bit_xor 1 f) g) 0 ≡ tame_byte x
-wild_flags x f g a b =
-    or_none (bit_xor 1 f) g ∙ ap₂ ◌&&◌ inside (ap (λ n. eqb n 0) b ∙ flag_none (within 0x7B 0x7D (bit_or x 0x20))) ∙ ranges (leb x 0x7E) refl
+tame_ranges : (x : ℕ) → within 0x22 0x7E x && one_range x ≡ tame_byte x
+tame_ranges x = ranges (leb x 0x7E) refl
   where
-    inside : eqb (bit_xor 1 f) 0 ≡ within 0x22 0x7E x
-    inside = rw (a, not_flag (within 0x22 0x7E x), flag_none (not (within 0x22 0x7E x))) (twice (within 0x22 0x7E x))
-      where
-        twice : (t : Bool) → not (not t) ≡ t
-        twice true = refl
-        twice false = refl
-
     ranges : (t : Bool) → leb x 0x7E ≡ t → within 0x22 0x7E x && one_range x ≡ tame_byte x
     ranges true t = rw (ranges_same x (omega (arith, leb-true x 0x7E t))) refl
     ranges false t = rw (t, and-false (leb 0x22 x)) refl
 
-pub tame_told : (s : Text) (r : Bool) → r ≡ each_of tame_byte s → r ≡ tame_text s
-unfolding tame_text
-tame_told s r e = e
+-- r says whether a byte from the one end to the other lies in the one range
+pub tame_rest : (x : ℕ) → within 0x22 0x7E x ≡ true → (r : Bool) → r ≡ within 0x7B 0x7D (bit_or x 0x20) → not r ≡ tame_byte x
+tame_rest x i r e = ap not e ∙ (sym (ap (λ t. t && one_range x) i) ∙ tame_ranges x)
 
 pub tame_string : (s : Text) → tame_text s ≡ true → leb (length s) 512 ≡ string_rule s
 unfolding string_rule

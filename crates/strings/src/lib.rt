@@ -1,12 +1,11 @@
-// The rules of strings by their bytes: what refusal 4 tests in each string of a book, and 7 in a question. Each rule that looks at every byte
-// gathers its verdict by an or of bytes and never leaves early: such a loop works on many bytes at a time.
+// The rules of strings by their bytes: what refusal 4 tests in each string of a book, and 7 in a question.
 #![tactic(auto)]
 
-ghost use Rattle.std.specs.Prelude.{◌≡◌, [], ◌∷◌, true, eqb};
+ghost use Rattle.std.specs.Prelude.{ℕ, ◌≡◌, [], ◌∷◌, Bool, true, eqb};
 ghost use Rattle.text.specs.Bytes.{bytes};
-ghost use Rattle.text.specs.Text.{each_of};
+ghost use Rattle.text.specs.Text.{some_of, each_of};
 ghost use Rattle.strings.specs.Strings.{none_of, plain_byte, string_rule};
-ghost use Rattle.strings.specs.Scan.{flag, within, tame_byte, tame_text};
+ghost use Rattle.strings.specs.Scan.{flag, tame_byte, tame_text};
 
 // The most bytes that a string has.
 pub const LONGEST: usize = 512;
@@ -37,129 +36,77 @@ const BANG: u8 = b'!';
 pub fn same(x: u8, y: u8) -> u8
     ensures { result ≡ flag (eqb x y) }
 {
-    if x == y {
-        return 1;
-    }
-    0
+    u8::from(x == y)
 }
 
-// 0 for a byte that a string may have, else 1.
-fn odd_byte(x: u8) -> u8
-    ensures { eqb result 0 ≡ plain_byte x }
+// Whether ok holds of each byte of s. It never leaves early: such a loop works on many bytes at a time. The verdict is gathered in a byte, since
+// where it is a bool and a caller tests it, the compiled loop goes byte by byte, in five times the instructions.
+fn holds_of_each<F: Fn(u8) -> bool>(s: &[u8], ok: F) -> bool
+    requires { F.IsAlwaysCallable ok }
+    ensures { (test : ℕ → Bool) → ((x : ℕ) (r : Bool) → F.post ok x r → r ≡ test x) → result ≡ each_of test s.now }
 {
-    if x < LOWEST {
-        return 1;
-    }
-    if HIGHEST < x {
-        return 1;
-    }
-    same(x, BACKSLASH)
+    s.iter().fold(0, |bad, x| bad | u8::from(!ok(*x))) == 0
 }
 
-// Whether a string may have each byte of s.
-fn is_plain(s: &[u8]) -> bool
-    ensures { result ≡ each_of plain_byte s.now }
+// Whether a string may have the byte x.
+fn is_plain_byte(x: u8) -> bool
+    ensures { result ≡ plain_byte x }
 {
-    let mut bad: u8 = 0;
-    let mut i = 0;
-    while i < s.len() {
-        bad = bad | odd_byte(s[i]);
-        i += 1;
-    }
-    bad == 0
+    (LOWEST..=HIGHEST).contains(&x) && x != BACKSLASH
 }
 
 // Whether s is a string: short enough, and each byte plain.
 pub fn is_string(s: &[u8]) -> bool
     ensures { result ≡ string_rule s.now }
 {
-    if LONGEST < s.len() {
-        return false;
-    }
-    is_plain(s)
+    s.len() <= LONGEST && holds_of_each(s, is_plain_byte)
 }
 
-// 0 where x is none of `{ } [ ] !`, else 1. Brace and bracket of a kind differ in one bit: side by side they cost one test.
-fn bracket_or_bang(x: u8) -> u8
-    ensures { eqb result 0 ≡ none_of (bytes "{}[]!") x }
+// Whether x is none of `{ } [ ] !`. Brace and bracket of a kind differ in one bit: side by side they cost one test.
+#[tactic(auto, unfolding(text::specs::Text::some_of))]
+fn is_bare_byte(x: u8) -> bool
+    ensures { result ≡ none_of (bytes "{}[]!") x }
 {
-    let brace = same(x, OPEN_BRACE);
-    let bracket = same(x, OPEN_BRACKET);
-    let end_brace = same(x, CLOSE_BRACE);
-    let end_bracket = same(x, CLOSE_BRACKET);
-    let bang = same(x, BANG);
-    brace | (bracket | (end_brace | (end_bracket | bang)))
+    x != OPEN_BRACE && x != OPEN_BRACKET && x != CLOSE_BRACE && x != CLOSE_BRACKET && x != BANG
 }
 
 // Whether s has none of `{ } [ ] !`.
 pub fn lacks_brackets(s: &[u8]) -> bool
     ensures { result ≡ each_of (none_of (bytes "{}[]!")) s.now }
 {
-    let mut bad: u8 = 0;
-    let mut i = 0;
-    while i < s.len() {
-        bad = bad | bracket_or_bang(s[i]);
-        i += 1;
-    }
-    bad == 0
+    holds_of_each(s, is_bare_byte)
 }
 
-// 0 where x is none of three bytes, else 1.
-pub fn one_of(x: u8, a: u8, b: u8, c: u8) -> u8
-    ensures { eqb result 0 ≡ none_of (a ∷ b ∷ c ∷ []) x }
+// Whether x is one of three bytes.
+#[tactic(auto, unfolding(text::specs::Text::some_of))]
+pub fn one_of(x: u8, a: u8, b: u8, c: u8) -> bool
+    ensures { result ≡ some_of (eqb x) (a ∷ b ∷ c ∷ []) }
 {
-    same(x, a) | (same(x, b) | same(x, c))
+    x == a || x == b || x == c
 }
 
 // Whether s has none of three bytes. Two are asked for by naming one again.
 pub fn lacks(s: &[u8], a: u8, b: u8, c: u8) -> bool
     ensures { result ≡ each_of (none_of (a ∷ b ∷ c ∷ [])) s.now }
 {
-    let mut bad: u8 = 0;
-    let mut i = 0;
-    while i < s.len() {
-        bad = bad | one_of(s[i], a, b, c);
-        i += 1;
-    }
-    bad == 0
+    holds_of_each(s, |x| !one_of(x, a, b, c))
 }
 
 // The rules of the strings of one text. Where the text is tame, as most are, each byte that no string or no pattern may have is known to be
 // missing, and only the rest is tested.
 
-// 1 where x lies from the one byte to the other, else 0.
-fn between(x: u8, low: u8, high: u8) -> u8
-    ensures { result ≡ flag (within low high x) }
+// Whether x is tame. A bracket and its brace differ in one bit: with it set, one range holds both.
+fn is_tame_byte(x: u8) -> bool
+    ensures { result ≡ tame_byte x }
 {
-    if x < low {
-        return 0;
-    }
-    if high < x {
-        return 0;
-    }
-    1
-}
-
-// 0 for a tame byte, else 1. A bracket and its brace differ in one bit: with it set, one range holds both.
-fn wild_byte(x: u8) -> u8
-    ensures { eqb result 0 ≡ tame_byte x }
-{
-    let inside = between(x, LOWEST_TAME, HIGHEST);
-    let bracket = between(x | BRACE_BIT, OPEN_BRACE, CLOSE_BRACE);
-    (1 ^ inside) | bracket
+    (LOWEST_TAME..=HIGHEST).contains(&x) && !(OPEN_BRACE..=CLOSE_BRACE).contains(&(x | BRACE_BIT))
 }
 
 // Whether s is tame.
 pub fn is_tame(s: &[u8]) -> bool
     ensures { result ≡ tame_text s.now }
 {
-    let mut bad: u8 = 0;
-    let mut i = 0;
-    while i < s.len() {
-        bad = bad | wild_byte(s[i]);
-        i += 1;
-    }
-    bad == 0
+    holds_of_each(s, is_tame_byte)
 }
 
 // Whether s is a string, where the text that it is a part of may be known to be tame.

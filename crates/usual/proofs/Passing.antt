@@ -2,7 +2,7 @@
 use mathlib.Core.Path.{◌≡◌, refl, sym, ap, ◌∙◌}
 use mathlib.Core.List.{List, [], ◌∷◌}
 use mathlib.Core.Bool.{Bool, true, false, not, ◌&&◌, ◌||◌, cond, or-true}
-use mathlib.Core.Option.{none}
+use Rattle.std.specs.Prelude.{Some, None}
 use Prim.Native.Nat.{ℕ, ◌+◌, ◌-◌, ◌≤◌, ◌<◌}
 use native.Mathlib.Omega.{arith}
 use lib.ListN.{length, get_or, set, drop, length-set}
@@ -14,17 +14,17 @@ use Rattle.text.specs.Bytes.{Text}
 use Rattle.text.specs.Text.{each_of}
 use Rattle.text.proofs.Picks.{by_test}
 use Rattle.book.specs.declared.Cmd.{Cmd}
-use Rattle.book.specs.declared.Step.TheVariants.{Command}
+use Rattle.std.specs.Prelude.{Ok}
 use Rattle.strings.specs.Strings.{string_rule}
 use Rattle.strings.proofs.Tame.{and_left, and_right}
 use Rattle.book.specs.Command.{begin, key, target, flag, text_option, end, widths, width_of, operands}
 use Rattle.book.specs.Rules.{slot, in_range, openers, limits, in_order, too_many, text_of, own_rule, good_string, given_before, fault_of}
 use Rattle.book.specs.Steps.{step_at}
-use Rattle.book.specs.State.{has, pushed, Slotted}
+use Rattle.book.specs.State.{has, pushed, slotted}
 use Rattle.book.proofs.Table.{every, at_each, at_keys, T_true}
 use Rattle.book.proofs.Steps.{step_command}
 use Rattle.faults.proofs.Keeps.{order_on, many_once, many_on}
-use Rattle.usual.specs.Usual.{fitting, most_of, Usual, Passed, still, more}
+use Rattle.usual.specs.Usual.{fitting, most_of, once, Usual, Passed, still, more}
 use Rattle.usual.proofs.Most.{Now}
 
 no_eqb : (a b : ℕ) → not (eqb a b) ≡ true → a ≡ b → ⊥
@@ -48,24 +48,6 @@ pub read_op : (part : Text) (at op : ℕ) (c : Cmd) → at < length part → get
 unfolding operands
 read_op part at op c h b e = ap (λ (x : Cmd). x.op) e ∙ rw (drop-cons part at 0 h) b
 
--- whether a command that comes once is counted, by the tests of the code
-module _ (ns : List ℕ) (k : ℕ) where
-  pub counted_shut : get_or ns 1 0 ≡ 0 →
-      (false ≡ (not (eqb (has ns begin) 0) && eqb (has ns k) 0)) ×
-      (ns ≡ cond (not (eqb (has ns begin) 0) && eqb (has ns k) 0) (set ns k 1) ns)
-  counted_shut z = (rw z refl, rw z refl)
-
-  module _ (begun : get_or ns 1 0 ≡ 0 → ⊥) where
-    pub counted_before : (get_or ns k 0 ≡ 0 → ⊥) →
-        (false ≡ (not (eqb (has ns begin) 0) && eqb (has ns k) 0)) ×
-        (ns ≡ cond (not (eqb (has ns begin) 0) && eqb (has ns k) 0) (set ns k 1) ns)
-    counted_before n = (rw (ne_eqb _ _ begun, ne_eqb _ _ n) refl, rw (ne_eqb _ _ begun, ne_eqb _ _ n) refl)
-
-    pub counted_now : get_or ns k 0 ≡ 0 →
-        (true ≡ (not (eqb (has ns begin) 0) && eqb (has ns k) 0)) ×
-        (set ns k 1 ≡ cond (not (eqb (has ns begin) 0) && eqb (has ns k) 0) (set ns k 1) ns)
-    counted_now n = (rw (ne_eqb _ _ begun, eq-eqb _ _ n) refl, rw (ne_eqb _ _ begun, eq-eqb _ _ n) refl)
-
 -- what the table of widths tells of a command, by one test at each entry
 by_width : (w : ℕ) (f : ℕ → Bool) → T (every (λ i x. not (eqb x w) || f i) 0 widths) → (op : ℕ) → op < 21 → width_of op ≡ w → f op ≡ true
 unfolding width_of
@@ -82,9 +64,6 @@ known op w e n = by_test (ltb op 21) (λ y. ltb-true op 21 y) (λ y. let z : 9 �
 abbrev pub lone : List ℕ
 lone = 2 ∷ 4 ∷ 6 ∷ 10 ∷ 14 ∷ []
 
-pub lone_small : (op : ℕ) → OneOf lone op → op < 21
-lone_small op h = ltb-true op 21 (at_keys (λ i. ltb i 21) lone tt op h)
-
 -- a command whose slot is its byte, of which what follows is known
 module _ (text : Text) (ns : List ℕ) (last : ℕ) (c : Cmd) (op : ℕ) (is : op ≡ c.op) (small : op < 21) (no_flag : op ≡ flag → ⊥) (no_text : op ≡ text_option → ⊥) where
   in_range_lem : in_range c ≡ true
@@ -95,8 +74,9 @@ module _ (text : Text) (ns : List ℕ) (last : ℕ) (c : Cmd) (op : ℕ) (is : o
   unfolding slot
   slot_is = rw (← is, ne_eqb op flag no_flag, ne_eqb op text_option no_text) refl
 
-  pub slotted : Slotted op c
-  slotted = record { inside = λ h. (in_range_lem, slot_is); outside = λ h. absurd (omega (arith, h, small)) }
+  pub slot_told : slotted c ≡ Some op
+  unfolding slotted
+  slot_told = rw (in_range_lem, ← slot_is) refl
 
   module _ (no_begin : op ≡ begin → ⊥)
       (follow : (not (eqb op target) || (eqb last key || eqb last target)) ≡ true)
@@ -120,7 +100,7 @@ module _ (text : Text) (ns : List ℕ) (last : ℕ) (c : Cmd) (op : ℕ) (is : o
         sym (many_on (has ns) last c op is n (get_or limits op 0) op no_begin refl (eqb-false _ _ e) slot_is) ∙ lt-leb (get_or limits op 0) (has ns op) l)
 
     -- nothing is wrong with it if it was not given before
-    pub clear_of : (n : ℕ) (keys paths : List Text) → given_before keys paths c.op (text_of text c) ≡ false → fault_of text (has ns) last n keys paths c ≡ none
+    pub clear_of : (n : ℕ) (keys paths : List Text) → given_before keys paths c.op (text_of text c) ≡ false → fault_of text (has ns) last n keys paths c ≡ None
     unfolding fault_of
     clear_of n keys paths g = rw (order, good, few n, g) refl
 
@@ -129,7 +109,7 @@ module _ (text : Text) (ns : List ℕ) (last : ℕ) (c : Cmd) (op : ℕ) (is : o
       unfolding given_before
       not_given keys paths = rw (← is, ne_eqb op begin no_begin, ne_eqb op key no_key) refl
 
-      pub clear_still : (n : ℕ) (keys paths : List Text) → fault_of text (has ns) last n keys paths c ≡ none
+      pub clear_still : (n : ℕ) (keys paths : List Text) → fault_of text (has ns) last n keys paths c ≡ None
       clear_still n keys paths = clear_of n keys paths (not_given keys paths)
 
       pub pushed_one : pushed ns c op ≡ set ns op (has ns op + 1)
@@ -137,7 +117,7 @@ module _ (text : Text) (ns : List ℕ) (last : ℕ) (c : Cmd) (op : ℕ) (is : o
       pushed_one = rw (← is, ne_eqb op 11 no_key) refl
 
       pub usual : (op ≡ end → ⊥) → Usual text ns last op c
-      usual no_end = record { slotted = slotted; no_key = λ e. no_key (is ∙ e); no_end = λ e. no_end (is ∙ e); clear = clear_still }
+      usual no_end = record { slot = slot_told; no_key = λ e. no_key (is ∙ e); no_end = λ e. no_end (is ∙ e); clear = clear_still }
 
 pub recast : (part text : Text) (ns₀ : List ℕ) (last at : ℕ) {ns ns' : List ℕ} {l l' p p' : ℕ} → ns ≡ ns' → l ≡ l' → p ≡ p' → Passed part text ns₀ last at ns l p → Passed part text ns₀ last at ns' l' p'
 recast part text ns₀ last at a b d x = rw (← a, ← b, ← d) x
@@ -146,21 +126,15 @@ head_byte : (part : Text) (at : ℕ) → at < length part → get_or (drop at pa
 head_byte part at h = rw (drop-cons part at 0 h) refl
 
 -- what holds before each command of a run
-pub record Running (part text : Text) (ns₀ : List ℕ) (last at op : ℕ) (ns : List ℕ) (m to : ℕ) : Type 0 where
-  pub latest : ℕ
-  pub passed : Passed part text ns₀ last at ns latest to
-  pub said : latest ≡ cond (eqb to at) last op
-  pub follow : (not (eqb op target) || (eqb latest key || eqb latest target)) ≡ true
+pub record Running (part text : Text) (ns₀ : List ℕ) (last₀ at op : ℕ) (ns : List ℕ) (last m to : ℕ) : Type 0 where
+  pub passed : Passed part text ns₀ last₀ at ns last to
+  pub follow : (not (eqb op target) || (eqb last key || eqb last target)) ≡ true
   pub unlocked : (eqb (get_or openers op 0) 0 || not (eqb (has ns (get_or openers op 0)) 0)) ≡ true
   pub count : m ≡ has ns op
   pub size : length ns ≡ 39
   pub place : to ≤ length part
-  pub forth : at ≤ to
 
 module _ (part text : Text) (ns₀ : List ℕ) (last at : ℕ) where
-  pub stay : (x : ℕ) → Passed part text ns₀ last at ns₀ (cond (eqb at at) last x) at
-  stay x = rw (eq-eqb at at refl) still
-
   module _ (op : ℕ) {most : ℕ} (now : Now ns₀ last op most) where
     w : width_of op ≡ 4
     w = now.width
@@ -171,24 +145,18 @@ module _ (part text : Text) (ns₀ : List ℕ) (last at : ℕ) where
     told : (f : ℕ → Bool) → T (every (λ i x. not (eqb x 4) || f i) 0 widths) → f op ≡ true
     told f t = by_width 4 f t op small w
 
-    pub run_none : length ns₀ ≡ 39 → at ≤ length part → (k : ℕ) → k ≡ op → Running part text ns₀ last at op ns₀ (get_or ns₀ k 0) at
+    pub run_none : length ns₀ ≡ 39 → at ≤ length part → (k : ℕ) → k ≡ op → Running part text ns₀ last at op ns₀ last (get_or ns₀ k 0) at
     run_none l h k q =
         record {
-          latest = last;
           passed = still;
-          said = rw (eq-eqb at at refl) refl;
           follow = now.follow;
           unlocked = now.unlocked;
           count = ap (λ (i : ℕ). get_or ns₀ i 0) q;
           size = l;
           place = h;
-          forth = omega arith;
         }
 
-    module _ {ns : List ℕ} {m to : ℕ} (s : Running part text ns₀ last at op ns m to) where
-      pub run_ends : Passed part text ns₀ last at ns (cond (eqb to at) last op) to
-      run_ends = recast part text ns₀ last at refl s.said refl s.passed
-
+    module _ {ns : List ℕ} {latest m to : ℕ} (s : Running part text ns₀ last at op ns latest m to) where
       module _ (b : Bool) (fb : b ≡ fitting part to text op) (yes : b ≡ true) where
         cmd : Cmd
         cmd = operands 4 (drop to part)
@@ -211,7 +179,7 @@ module _ (part text : Text) (ns₀ : List ℕ) (last at : ℕ) where
         unfolding cmd operands
         op_is = sym (head_byte part to (omega (arith, long)) ∙ byte)
 
-        reads : step_at part to ≡ Command cmd (record { at = to + 4 + 1 })
+        reads : step_at part to ≡ Ok (cmd, to + 4 + 1)
         unfolding cmd
         reads = sym (step_command part to 4 (operands 4 (drop to part)) (omega (arith, long)) (sym (ap width_of byte ∙ w)) (λ e. absurd (omega (arith, e))) long refl)
 
@@ -219,41 +187,38 @@ module _ (part text : Text) (ns₀ : List ℕ) (last at : ℕ) where
           room : has ns op < most_of op
           room = omega (arith, left, s.count, now.is)
 
-          taken : Usual text ns s.latest op cmd
+          taken : Usual text ns latest op cmd
           taken =
-              usual text ns s.latest cmd op op_is small (no_eqb op flag (told (λ i. not (eqb i flag)) tt)) (no_eqb op text_option (told (λ i. not (eqb i text_option)) tt)) now.no_begin
+              usual text ns latest cmd op op_is small (no_eqb op flag (told (λ i. not (eqb i flag)) tt)) (no_eqb op text_option (told (λ i. not (eqb i text_option)) tt)) now.no_begin
               s.follow s.unlocked room good now.no_key (no_eqb op end (told (λ i. not (eqb i end)) tt))
 
           counted : pushed ns cmd op ≡ set ns op (m + 1)
           counted =
-              pushed_one text ns s.latest cmd op op_is small (no_eqb op flag (told (λ i. not (eqb i flag)) tt)) (no_eqb op text_option (told (λ i. not (eqb i text_option)) tt)) now.no_begin
+              pushed_one text ns latest cmd op op_is small (no_eqb op flag (told (λ i. not (eqb i flag)) tt)) (no_eqb op text_option (told (λ i. not (eqb i text_option)) tt)) now.no_begin
               s.follow s.unlocked room good now.no_key ∙ ap (λ (i : ℕ). set ns op (i + 1)) (sym s.count)
 
           another : get_or openers op 0 ≡ op → ⊥
           another = no_eqb (get_or openers op 0) op (told (λ i. not (eqb (get_or openers i 0) i)) tt)
 
-          run_here : Running part text ns₀ last at op (set ns op (m + 1)) (m + 1) (to + 5)
+          run_here : Running part text ns₀ last at op (set ns op (m + 1)) op (m + 1) (to + 5)
           run_here =
               record {
-                latest = op;
                 passed = recast part text ns₀ last at counted (sym op_is) (omega arith) (more s.passed reads taken);
-                said = rw (ne_eqb (to + 5) at (λ e. absurd (omega (arith, e, s.forth)))) refl;
                 follow = by_test (eqb op target) (λ e. rw e (or-true (eqb op key))) (λ e. rw e refl);
                 unlocked = rw (get_or-set_other ns op (get_or openers op 0) (m + 1) 0 another) s.unlocked;
                 count = sym (get_or-set_same ns op (m + 1) 0 (omega (arith, small, s.size)));
                 size = length-set ns op (m + 1) ∙ s.size;
                 place = omega (arith, long);
-                forth = omega (arith, s.forth);
               }
 
-          pub run_more : (k : ℕ) → k ≡ op → Running part text ns₀ last at op (set ns k (m + 1)) (m + 1) (to + 5)
+          pub run_more : (k : ℕ) → k ≡ op → Running part text ns₀ last at op (set ns k (m + 1)) op (m + 1) (to + 5)
           run_more k q = rw q run_here
 
   -- a command that comes once, by its slot
-  module _ (k : ℕ) (b : Bool) (bv : b ≡ (not (eqb (has ns₀ begin) 0) && eqb (has ns₀ k) 0))
-      (ns : List ℕ) (nv : ns ≡ cond (not (eqb (has ns₀ begin) 0) && eqb (has ns₀ k) 0) (set ns₀ k 1) ns₀) where
-    pub once_not : b ≡ false → (x : ℕ) → Passed part text ns₀ last at ns (cond (eqb at at) last x) at
-    once_not f x = recast part text ns₀ last at (sym (nv ∙ rw (← bv, f) refl)) refl refl (stay x)
+  module _ (k : ℕ) (b : Bool) (bv : b ≡ once ns₀ k)
+      (ns : List ℕ) (nv : ns ≡ cond (once ns₀ k) (set ns₀ k 1) ns₀) (x l : ℕ) (lv : l ≡ cond (once ns₀ k) x last) where
+    pub once_not : b ≡ false → Passed part text ns₀ last at ns l at
+    once_not f = recast part text ns₀ last at (sym (nv ∙ rw (← bv, f) refl)) (sym (lv ∙ rw (← bv, f) refl)) refl still
 
     module _ (yes : b ≡ true) where
       pub begun_here : eqb (has ns₀ begin) 0 ≡ false
@@ -265,8 +230,11 @@ module _ (part text : Text) (ns₀ : List ℕ) (last at : ℕ) where
       pub counted_once : set ns₀ k (has ns₀ k + 1) ≡ ns
       counted_once = rw first (sym (nv ∙ rw (← bv, yes) refl))
 
+      pub last_once : x ≡ l
+      last_once = sym (lv ∙ rw (← bv, yes) refl)
+
       -- one that is a byte alone
-      module _ (h : at < length part) (is : k ≡ get_or part at 0) (among : OneOf lone (get_or part at 0)) where
+      module _ (h : at < length part) (is : k ≡ get_or part at 0) (same : x ≡ get_or part at 0) (among : OneOf lone (get_or part at 0)) where
         alone : (f : ℕ → Bool) → T (every (λ i x. f x) 0 lone) → f k ≡ true
         alone f t = ap f is ∙ at_keys f lone t (get_or part at 0) among
 
@@ -284,7 +252,7 @@ module _ (part text : Text) (ns₀ : List ℕ) (last at : ℕ) where
         unfolding good_string lone_cmd operands text_of own_rule string_rule each_of
         lone_good = rw (← lone_op, le-leb (0 + 0) (length text) (omega arith)) (alone (λ i. own_rule i []) tt)
 
-        lone_reads : step_at part at ≡ Command lone_cmd (record { at = at + 0 + 1 })
+        lone_reads : step_at part at ≡ Ok (lone_cmd, at + 0 + 1)
         unfolding lone_cmd width_of
         lone_reads =
             sym (step_command part at 0 (operands 0 (drop at part)) h (sym (ap width_of (sym is) ∙ eqb-true (width_of k) 0 (alone (λ i. eqb (width_of i) 0) tt)))
@@ -299,13 +267,13 @@ module _ (part text : Text) (ns₀ : List ℕ) (last at : ℕ) where
         no_such : (i : ℕ) → T (every (λ j x. not (eqb x i)) 0 lone) → k ≡ i → ⊥
         no_such i t = no_eqb k i (alone (λ x. not (eqb x i)) t)
 
-        pub lone_on : Passed part text ns₀ last at ns (cond (eqb (at + 1) at) last (get_or part at 0)) (at + 1)
+        pub lone_on : Passed part text ns₀ last at ns l (at + 1)
         lone_on =
             recast part text ns₀ last at
             (pushed_one text ns₀ last lone_cmd k lone_op small_lone (no_such flag tt) (no_such text_option tt) (no_such begin tt)
             (alone (λ i. not (eqb i target) || (eqb last key || eqb last target)) tt) unlocked_here lone_room lone_good (no_such key tt)
             ∙ counted_once)
-            (sym lone_op ∙ is ∙ sym (rw (ne_eqb (at + 1) at (λ e. absurd (omega (arith, e)))) refl))
+            (sym lone_op ∙ is ∙ sym same ∙ last_once)
             (omega arith)
             (more still lone_reads
             (usual text ns₀ last lone_cmd k lone_op small_lone (no_such flag tt) (no_such text_option tt) (no_such begin tt)

@@ -1,16 +1,15 @@
 -- Commands that are taken in passing. These serve the code: what is wrong with a command is said in the book's definitions alone.
-use Rattle.std.specs.Prelude.{ℕ, ◌+◌, ◌-◌, List, ◌≡◌, Bool, true, false, not, ◌&&◌, ◌||◌, cond, length, get_or, set, drop, eqb, leb, ltb}
-use Rattle.std.proofs.Math.Option.{none}
+use Rattle.std.specs.Prelude.{ℕ, ◌+◌, ◌-◌, List, [], ◌∷◌, ◌++◌, ◌≡◌, Bool, true, false, not, ◌&&◌, ◌||◌, cond, length, get_or, drop, eqb, leb, ltb}
+use Rattle.std.specs.Prelude.{Some, None}
 use Rattle.text.specs.Bytes.{Text}
 use Rattle.text.specs.Text.{some_of}
-use Rattle.compare.specs.Compare.{digest_of}
 use Rattle.book.specs.declared.Cmd.{Cmd}
-use Rattle.book.specs.declared.Cursor.{Cursor}
-use Rattle.book.specs.declared.Step.TheVariants.{Command}
+use Rattle.std.specs.Prelude.{Ok}
 use Rattle.book.specs.Command.{begin, key, target, end, width_of, operands}
 use Rattle.book.specs.Rules.{openers, limits, text_of, good_string, fault_of}
 use Rattle.book.specs.Steps.{step_at}
-use Rattle.book.specs.State.{has, pushed, Slotted, texts, meets}
+use Rattle.book.specs.declared.Seen.{Seen}
+use Rattle.book.specs.State.{has, pushed, slotted, texts, row_of, meets}
 
 -- at the offset stands a command of that byte, a string behind it that keeps its rules
 unfoldable pub fitting : Text → ℕ → Text → ℕ → Bool
@@ -25,39 +24,40 @@ abbrev pub open_now : List ℕ → ℕ → ℕ → Bool
 open_now counts last op =
     (not (eqb op target) || (eqb last key || eqb last target)) && (eqb (get_or openers op 0) 0 || not (eqb (has counts (get_or openers op 0)) 0))
 
--- how many there may be now of a command with a string, neither BEGIN nor a key: none where it may not come
+-- how many there may be now of a command with a string, neither BEGIN nor a key: None where it may not come
 unfoldable pub most_now : List ℕ → ℕ → ℕ → ℕ
 most_now counts last op = cond (eqb (width_of op) 4 && (not (eqb op begin || eqb op key) && open_now counts last op)) (most_of op) 0
 
+-- a command that comes once may be counted in the slot: the record has begun, and none stands
+abbrev pub once : List ℕ → ℕ → Bool
+once counts k = not (eqb (has counts begin) 0) && eqb (has counts k) 0
+
 -- The key at the offset, where a key stands there, is without a fault and was not given before.
-unfoldable pub key_fine : Text → ℕ → Text → List ℕ → List ℕ → List ℕ → Bool
-key_fine part at text counts ks kl =
+unfoldable pub key_fine : Text → ℕ → Text → List ℕ → List Seen → Bool
+key_fine part at text counts keys =
     not (leb (length part - at) 4) &&
     (not (eqb (has counts 10) 0) &&
     (ltb (has counts key) 32 &&
-    (good_string text (operands 4 (drop at part)) && not (some_of (meets false (text_of text (operands 4 (drop at part)))) (texts text ks kl (has counts key))))))
+    (good_string text (operands 4 (drop at part)) && not (some_of (meets false (text_of text (operands 4 (drop at part)))) (texts text keys)))))
 
 -- A command in the slot k without a fault, which neither records nor keys before it can give one.
 pub record Usual (text : Text) (counts : List ℕ) (last k : ℕ) (c : Cmd) : Type 0 where
-  pub slotted : Slotted k c
+  pub slot : slotted c ≡ Some k
   pub no_key : c.op ≡ key → ⊥
   pub no_end : c.op ≡ end → ⊥
-  pub clear : (n : ℕ) (keys paths : List Text) → fault_of text (has counts) last n keys paths c ≡ none
+  pub clear : (n : ℕ) (keys paths : List Text) → fault_of text (has counts) last n keys paths c ≡ None
 
 -- From one offset to another each command is usual. The counts and the last command's byte go with the offset.
 pub data Passed (part text : Text) (counts : List ℕ) (last at : ℕ) : List ℕ → ℕ → ℕ → Type 0 where
   still : Passed part text counts last at counts last at
   more :
-      {counts' : List ℕ} {last' at' k : ℕ} {c : Cmd} {nx : Cursor} → Passed part text counts last at counts' last' at' → step_at part at' ≡ Command c nx → Usual text counts' last' k c →
-      Passed part text counts last at (pushed counts' c k) c.op nx.at
+      {counts' : List ℕ} {last' at' k : ℕ} {c : Cmd} {nx : ℕ} → Passed part text counts last at counts' last' at' → step_at part at' ≡ Ok (c, nx) → Usual text counts' last' k c →
+      Passed part text counts last at (pushed counts' c k) c.op nx
 
--- What was taken from the offset on: usual commands, or a key, whose row is put into the tables; or nothing, where a key is not fine or none stands there.
-pub data Taken (part text : Text) (counts : List ℕ) (last at : ℕ) (ks kl km : List ℕ) : List ℕ → ℕ → List ℕ → List ℕ → List ℕ → Type 0 where
-  passed : {counts' : List ℕ} {to : ℕ} → (get_or part at 0 ≡ key → ⊥) → Passed part text counts last at counts' (cond (eqb to at) last (get_or part at 0)) to → Taken part text counts last at ks kl km counts' to ks kl km
+-- What was taken from the offset on: usual commands, or a key, whose row comes behind the others; or nothing, where a key is not fine or None stands there.
+pub data Taken (part text : Text) (counts : List ℕ) (last at : ℕ) (keys : List Seen) : List ℕ → ℕ → ℕ → List Seen → Type 0 where
+  passed : {counts' : List ℕ} {last' to : ℕ} → (get_or part at 0 ≡ key → ⊥) → Passed part text counts last at counts' last' to → Taken part text counts last at keys counts' last' to keys
   keyed :
-      get_or part at 0 ≡ key → key_fine part at text counts ks kl ≡ true →
-      Taken part text counts last at ks kl km (pushed counts (operands 4 (drop at part)) key) (at + 5)
-      (set ks (has counts key) (operands 4 (drop at part)).start)
-      (set kl (has counts key) (operands 4 (drop at part)).len)
-      (set km (has counts key) (digest_of (text_of text (operands 4 (drop at part)))))
-  barred : key_fine part at text counts ks kl ≡ false → Taken part text counts last at ks kl km counts at ks kl km
+      get_or part at 0 ≡ key → key_fine part at text counts keys ≡ true →
+      Taken part text counts last at keys (pushed counts (operands 4 (drop at part)) key) (operands 4 (drop at part)).op (at + 5) (keys ++ row_of text (operands 4 (drop at part)) ∷ [])
+  barred : key_fine part at text counts keys ≡ false → Taken part text counts last at keys counts last at keys

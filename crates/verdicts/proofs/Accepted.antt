@@ -2,7 +2,7 @@
 use mathlib.Core.Path.{◌≡◌, refl, sym, ap, ap₂, subst, ◌∙◌}
 use mathlib.Core.List.{List, [], ◌∷◌, map, reverse, reverse_aux, reverse-reverse}
 use mathlib.Core.Bool.{Bool, false, ◌||◌, cond, and-false}
-use mathlib.Core.Option.{Option, some, none}
+use Rattle.std.specs.Prelude.{Option, Some, None}
 use Prim.Native.Nat.{ℕ, zero, suc, ◌+◌, ◌≤◌, ◌<◌}
 use native.Mathlib.Omega.{arith}
 use lib.ListN.{length, get_or, get_or-eq_default}
@@ -17,7 +17,6 @@ use Rattle.book.specs.Rules.{Before, slot, tally, last_op, limits, too_many, fau
 use Rattle.book.specs.Record.{is, only}
 use Rattle.book.specs.Book.{judge, next, finish, nothing, verdict}
 use Rattle.book.specs.Sound.{All, nil, cons, Good, Sound}
-use Rattle.book.specs.State.{number}
 use Rattle.faults.proofs.Keeps.{ranged}
 use Rattle.verdicts.proofs.Turns.{clear}
 
@@ -46,7 +45,7 @@ never : (n p : ℕ) (x : List (List Cmd)) → refused n p ≡ given x → ⊥
 never n p x e = let z : ◌≡◌ {A = ℕ} 0 1 = cc in omega (arith, z)
 
 -- What each accepted command keeps up holds of each record: R of the commands of the open one, newest first
-module _ (text : Text) (R : List Cmd → Type 0) (none_yet : R []) (more : (b : Before) (c : Cmd) → fault text b c ≡ none → R b.here → R (c ∷ b.here)) where
+module _ (text : Text) (R : List Cmd → Type 0) (none_yet : R []) (more : (b : Before) (c : Cmd) → fault text b c ≡ None → R b.here → R (c ∷ b.here)) where
   abbrev InOrder : List Cmd → Type 0
   InOrder r = R (reverse r)
 
@@ -54,8 +53,8 @@ module _ (text : Text) (R : List Cmd → Type 0) (none_yet : R []) (more : (b : 
     module _ (at : ℕ) (c : Cmd) (rest : Decoded) (follow : (b : Before) → judge text b rest ≡ given rs → All R b.records → R b.here → All InOrder rs) (b : Before) (p : All R b.records) (q : R b.here) where
       one : (o : Option ℕ) → fault text b c ≡ o → unless o at (λ n. judge text n rest) (next b c) ≡ given rs → All InOrder rs
       unfolding next
-      one (some n) f e = absurd (never n at rs e)
-      one none f e =
+      one (Some n) f e = absurd (never n at rs e)
+      one None f e =
           by_test (eqb c.op end)
           (λ y. follow (record { records = b.here ∷ b.records; here = [] }) (rw y at e) (cons q p) none_yet)
           (λ y. follow (record { records = b.records; here = c ∷ b.here }) (rw y at e) p (more b c f q))
@@ -133,11 +132,11 @@ module _ (text : Text) where
   unfolding tally
   open_none = record { each = nil; few = λ op m o. omega arith }
 
-  open_more : (b : Before) (c : Cmd) → fault text b c ≡ none → Open text b.here → Open text (c ∷ b.here)
+  open_more : (b : Before) (c : Cmd) → fault text b c ≡ None → Open text b.here → Open text (c ∷ b.here)
   unfolding fault
   open_more b c f s =
       let count : ℕ → ℕ = λ k. tally k b.here in
-      let y = clear text count (last_op b.here) (length b.records) (keys_of text b.here) (map (path_of text) b.records) c (ap number f) in
+      let y = clear text count (last_op b.here) (length b.records) (keys_of text b.here) (map (path_of text) b.records) c f in
       record {
         each = cons (record { range = ranged count (last_op b.here) c y.order; string = y.string }) s.each;
         few = λ op m o. few_more op m o count (last_op b.here) (length b.records) c b.here refl y.few (s.few op m o);

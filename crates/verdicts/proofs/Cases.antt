@@ -4,7 +4,7 @@ use Prim.Native.String.{String}
 use mathlib.Core.List.{List, [], ◌∷◌, ◌++◌, map}
 use mathlib.Core.Path.{◌≡◌, refl}
 use mathlib.Core.Bool.{Bool, true, false}
-use mathlib.Core.Option.{Option, some, none}
+use Rattle.std.specs.Prelude.{Option, Some, None}
 use lib.ListN.{length}
 use Rattle.text.specs.Bytes.{Text, bytes}
 use Rattle.book.specs.declared.Cmd.{Cmd}
@@ -221,13 +221,13 @@ table =
     gets record_says
     (record {
       path = bytes "/p/a";
-      files = some (bytes "f" ∷ [] ∷ []);
-      exclude = none;
+      files = Some (bytes "f" ∷ [] ∷ []);
+      exclude = None;
       extends = bytes "./x" ∷ bytes "./y" ∷ [];
-      base_url = none;
-      paths = some (record { key = bytes "k"; targets = bytes "t" ∷ bytes "u" ∷ [] } ∷ record { key = bytes "l"; targets = bytes "v" ∷ [] } ∷ []);
-      flag_2 = some false;
-      text_6 = some (bytes "m");
+      base_url = None;
+      paths = Some (record { key = bytes "k"; targets = bytes "t" ∷ bytes "u" ∷ [] } ∷ record { key = bytes "l"; targets = bytes "v" ∷ [] } ∷ []);
+      flag_2 = Some false;
+      text_6 = Some (bytes "m");
     }))
     ∷ []
 

@@ -1,21 +1,20 @@
 -- The record checker's loop: what holds at each turn, and each way out of a turn. Assumes nothing.
 use mathlib.Core.Path.{◌≡◌, refl, sym, ap, subst, fun_ext, ◌∙◌}
-use mathlib.Core.List.{List, [], ◌∷◌, reverse, reverse_aux}
+use mathlib.Core.List.{List, [], ◌∷◌, ◌++◌, map, reverse, reverse_aux}
 use mathlib.Core.Bool.{Bool, true, false, not, ◌&&◌, ◌||◌, cond, true≢false}
-use mathlib.Core.Option.{Option, some, none}
-use Prim.Native.Nat.{ℕ, zero, suc, ◌+◌, ◌-◌, ◌≤◌, ◌<◌}
+use Rattle.std.specs.Prelude.{Option, Some, None}
+use Prim.Native.Nat.{ℕ, suc, ◌+◌, ◌-◌, ◌≤◌, ◌<◌}
 use native.Mathlib.Omega.{arith}
 use native.Mathlib.Numerals.{add-one}
 use native.Mathlib.Nat.{add-zero}
-use lib.ListN.{length, get_or, set, take, drop, replicate, length-set}
-use lib.Seq.{get_or-set_same, get_or-set_other}
+use lib.ListN.{length, get_or, take, drop, replicate}
 use lib.Dec.{T, eqb, leb}
-use borrow.Author.Tests.{eq-eqb, ne_eqb, eqb-true, eqb-false, leb-true, leb-false}
+use borrow.Author.Tests.{eq-eqb, ne_eqb, eqb-true, eqb-false, leb-false}
 use Rattle.text.specs.Bytes.{Text}
 use Rattle.book.specs.declared.Cmd.{Cmd}
-use Rattle.book.specs.declared.Cursor.{Cursor}
-use Rattle.book.specs.declared.Step.{Step}
-use Rattle.book.specs.declared.Step.TheVariants.{Command, Broken, End}
+use Rattle.book.specs.declared.Stop.{Stop}
+use Rattle.std.specs.Prelude.{Result, Ok, Err}
+use Rattle.book.specs.declared.Stop.TheVariants.{Broken, End}
 use Rattle.book.specs.Answer.{refused, unless}
 use Rattle.book.specs.Command.{command, decode, word, begin, key, end}
 use Rattle.book.specs.Rules.{slot, tally, in_range, in_order, opened, fresh, openers, limits, too_many, good_string, given_before, fault_of, fault, path_of, keys_of, text_of}
@@ -23,46 +22,38 @@ use Rattle.book.specs.Record.{only, first_of, single, record_path_of}
 use Rattle.book.specs.Book.{judge, next, finish}
 use Rattle.book.specs.Index.{up_to_end, begins_of}
 use Rattle.text.specs.Text.{some_of}
-use Rattle.book.specs.State.{has, pushed, Agrees, Slotted, texts, Table, Marked, meets, number}
-use Rattle.compare.specs.Compare.{digest_of}
+use Rattle.book.specs.declared.Seen.{Seen}
+use Rattle.book.specs.State.{has, pushed, Agrees, slotted, string_at, texts, IsSeen, AllSeen, row_of, meets}
+use Rattle.std.proofs.lemmas.List.{reverse-append, length-append}
+use Rattle.std.proofs.lemmas.List.Elements.{All-nil, All-push}
 use Rattle.book.specs.Checks.{Held, ClosedAs}
 use Rattle.book.specs.Steps.{step_at}
 use Rattle.book.proofs.Steps.{decoded, decode_step, Moved, step_moves, step_ends, step_begins}
 use Rattle.text.proofs.Picks.{by_test}
-use Rattle.faults.proofs.Keeps.{in_slot, agree_push, agree_none, limits_small, slot_key}
+use Rattle.faults.proofs.Keeps.{slotted_some, slot_small, agree_push, agree_none, limits_small, slot_key}
 use Rattle.book.proofs.Table.{at_each}
-use Rattle.faults.proofs.Faults.{good_within, fault_kept, fault_given}
+use Rattle.faults.proofs.Faults.{nothing, good_within, fault_kept, fault_given}
 
 -- what a command without a fault is
 pub record Clear (text : Text) (count : ℕ → ℕ) (last n : ℕ) (keys paths : List Text) (c : Cmd) : Type 0 where
   pub order : in_order count last c ≡ true
   pub string : good_string text c ≡ true
   pub few : too_many count last c n ≡ false
-  pub none_at : fault_of text count last n keys paths c ≡ none
+  pub none_at : fault_of text count last n keys paths c ≡ None
 
 module _ (text : Text) (count : ℕ → ℕ) (last n : ℕ) (keys paths : List Text) (c : Cmd) where
-  no : (m : ℕ) → (suc m) ≡ 0 → {A : Type 0} → A
-  no m e = absurd (omega (arith, e))
-
-  pub clear : number (fault_of text count last n keys paths c) ≡ 0 → Clear text count last n keys paths c
+  pub clear : fault_of text count last n keys paths c ≡ None → Clear text count last n keys paths c
   unfolding fault_of
   clear z =
       by_test (in_order count last c)
       (λ a. by_test (good_string text c)
       (λ b. by_test (too_many count last c n)
-      (λ d. let y : 5 ≡ 0 = rw (a, b, d) at z in absurd (omega (arith, y)))
+      (λ d. let y : Some 5 ≡ None = rw (a, b, d) at z in nothing (sym y))
       (λ d. by_test (given_before keys paths c.op (text_of text c))
-      (λ f. let y : 6 ≡ 0 = rw (a, b, d, f) at z in absurd (omega (arith, y)))
-      (λ f. record { order = a; string = b; few = d; none_at = rw (a, b, d, f) refl })))
-      (λ b. let y : 4 ≡ 0 = rw (a, b) at z in absurd (omega (arith, y))))
-      (λ a. let y : 3 ≡ 0 = rw a at z in absurd (omega (arith, y)))
-
-  pub faulty : (f : ℕ) → f ≡ number (fault_of text count last n keys paths c) → (f ≡ 0 → ⊥) → fault_of text count last n keys paths c ≡ some f
-  faulty f e h = go (fault_of text count last n keys paths c) e
-    where
-      go : (o : Option ℕ) → f ≡ number o → o ≡ some f
-      go none e = absurd (h e)
-      go (some g) e = ap some (sym e)
+      (λ f. let y : Some 6 ≡ None = rw (a, b, d, f) at z in nothing (sym y))
+      (λ f. record { order = a; string = b; few = d; none_at = z })))
+      (λ b. let y : Some 4 ≡ None = rw (a, b) at z in nothing (sym y)))
+      (λ a. let y : Some 3 ≡ None = rw a at z in nothing (sym y))
 
 and_left : (a b : Bool) → (a && b) ≡ true → a ≡ true
 and_left true b e = refl
@@ -143,334 +134,282 @@ unfoldable pub begun_at : List Cmd → ℕ → List ℕ → List ℕ
 begun_at [] base l = l
 begun_at (c ∷ here) base l = base ∷ l
 
--- a row more in a table of strings
-module _ (size : ℕ) (sixty : size ≤ 64) (text : Text) (ks kl : List ℕ) (m a b : ℕ) (t : Table text ks kl m) (w : a + b ≤ length text) (l : m < size) (rk : length ks ≡ size) (rl : length kl ≡ size) where
-  texts_below : (j : ℕ) → j ≤ m → texts text (set ks m a) (set kl m b) j ≡ texts text ks kl j
-  unfolding texts
-  texts_below zero h = refl
-  texts_below (suc j) h =
-      rw (get_or-set_other ks m j a 0 (λ q. absurd (omega (arith, q, h))), get_or-set_other kl m j b 0 (λ q. absurd (omega (arith, q, h))), texts_below j (omega (arith, h))) refl
+-- a row more
+pub texts_more : (text : Text) (rows : List Seen) (r : Seen) → texts text (rows ++ r ∷ []) ≡ string_at text r ∷ texts text rows
+unfolding texts
+texts_more text rows r = ap (map (string_at text)) (reverse-append rows (r ∷ []))
 
-  pub texts_put : texts text (set ks m a) (set kl m b) (m + 1) ≡ take b (drop a text) ∷ texts text ks kl m
-  unfolding texts
-  texts_put = rw (add-one m, get_or-set_same ks m a 0 (omega (arith, l, rk)), get_or-set_same kl m b 0 (omega (arith, l, rl)), texts_below m (omega arith)) refl
-
-  pub table_put : Table text (set ks m a) (set kl m b) (m + 1)
-  table_put =
-      record {
-        starts_there = omega (arith, l, rk, length-set ks m a);
-        lens_there = omega (arith, l, rl, length-set kl m b);
-        small = omega (arith, l, sixty);
-        within = λ i h.
-            by_test (eqb i m)
-            (λ e. subst (λ (j : ℕ). get_or (set ks m a) j 0 + get_or (set kl m b) j 0 ≤ length text) (sym (eqb-true i m e))
-            (rw (get_or-set_same ks m a 0 (omega (arith, l, rk)), get_or-set_same kl m b 0 (omega (arith, l, rl))) w))
-            (λ e. rw (get_or-set_other ks m i a 0 (eqb-false i m e), get_or-set_other kl m i b 0 (eqb-false i m e)) (t.within i (less i h (eqb-false i m e))));
-      }
-    where
-      less : (i : ℕ) → i < m + 1 → (i ≡ m → ⊥) → i < m
-      less i h n = by_test (leb m i) (λ e. absurd (n (omega (arith, h, leb-true m i e)))) (λ e. leb-false m i e)
-
-  pub marked_put : (km : List ℕ) → Marked text ks kl km m → length km ≡ size → (d : ℕ) → d ≡ digest_of (take b (drop a text)) → Marked text (set ks m a) (set kl m b) (set km m d) (m + 1)
-  marked_put km k r d e =
-      record {
-        there = omega (arith, l, r, length-set km m d);
-        each = λ i h.
-            by_test (eqb i m)
-            (λ y. subst (λ (j : ℕ). get_or (set km m d) j 0 ≡ digest_of (take (get_or (set kl m b) j 0) (drop (get_or (set ks m a) j 0) text))) (sym (eqb-true i m y))
-            (rw (get_or-set_same ks m a 0 (omega (arith, l, rk)), get_or-set_same kl m b 0 (omega (arith, l, rl)), get_or-set_same km m d 0 (omega (arith, l, r))) e))
-            (λ y. rw (get_or-set_other ks m i a 0 (eqb-false i m y), get_or-set_other kl m i b 0 (eqb-false i m y), get_or-set_other km m i d 0 (eqb-false i m y)) (k.each i (below i h (eqb-false i m y))));
-      }
-    where
-      below : (i : ℕ) → i < m + 1 → (i ≡ m → ⊥) → i < m
-      below i h n = by_test (leb m i) (λ e. absurd (n (omega (arith, h, leb-true m i e)))) (λ e. leb-false m i e)
-
-module _ (part : Text) (base : ℕ) (text : Text) (ps pl : List ℕ) (n : ℕ) where
-  pub record Sofar (ns : List ℕ) (last : ℕ) (ks kl km : List ℕ) (m at : ℕ) : Type 0 where
+module _ (part : Text) (base : ℕ) (text : Text) (rows : List Seen) where
+  pub record Sofar (ns : List ℕ) (last : ℕ) (ks : List Seen) (at : ℕ) : Type 0 where
     pub here : List Cmd
     pub agrees : Agrees ns last here
-    pub keys : keys_of text here ≡ texts text ks kl m
-    pub table : Table text ks kl m
-    pub marks : Marked text ks kl km m
-    pub count : m ≡ has ns key
-    pub rows : (length ks ≡ 32) × ((length kl ≡ 32) × (length km ≡ 32))
+    pub keys : keys_of text here ≡ texts text ks
+    pub seen : AllSeen text ks
+    pub count : has ns key ≡ length ks
     pub path : 0 < length here → (path_of text here ≡ take (word part 3) (drop (word part 1) text)) × ((word part 1 + word part 3 ≤ length text) × (4 < length part))
-    pub few : 0 < length here → n < 64
+    pub few : 0 < length here → length rows < 64
     pub begun : length here ≡ 0 → at ≡ 0
     pub lead : (length here ≡ 0 → ⊥) → tally begin here ≡ 0 → ⊥
     pub place : at ≤ length part
     pub whole :
-        (records : List (List Cmd)) → Held text ps pl n records →
+        (records : List (List Cmd)) → Held text rows records →
         judge text (record { records = records; here = [] }) (decode 0 base part) ≡ judge text (record { records = records; here = here }) (decode 0 (base + at) (drop at part))
     pub reads : up_to_end (decode 0 base part) ≡ reverse_aux here (up_to_end (decode 0 (base + at) (drop at part)))
     pub led : 0 < length here → first_op here ≡ begin
     pub begins : begins_of (decode 0 base part) ≡ begun_at here base (begins_of (decode 0 (base + at) (drop at part)))
 
-  module _ {ns : List ℕ} {last : ℕ} {ks kl km : List ℕ} {m at : ℕ} (s : Sofar ns last ks kl km m at) {o : Step} (is : o ≡ step_at part at) where
-    turned : (records : List (List Cmd)) → Held text ps pl n records → judge text (record { records = records; here = [] }) (decode 0 base part) ≡ judge text (record { records = records; here = s.here }) (decoded (base + at) at part o)
+  module _ {ns : List ℕ} {last : ℕ} {ks : List Seen} {at : ℕ} (s : Sofar ns last ks at) {o : Result (Cmd × ℕ) Stop} (is : o ≡ step_at part at) where
+    turned : (records : List (List Cmd)) → Held text rows records → judge text (record { records = records; here = [] }) (decode 0 base part) ≡ judge text (record { records = records; here = s.here }) (decoded (base + at) at part o)
     turned r h = s.whole r h ∙ ap (judge text (record { records = r; here = s.here })) (decode_step part at (base + at) ∙ ap (decoded (base + at) at part) (sym is))
 
-    pub turn_broken : o ≡ Broken → (records : List (List Cmd)) → Held text ps pl n records → judge text (record { records = records; here = [] }) (decode 0 base part) ≡ refused 2 (base + at)
+    pub turn_broken : o ≡ (Err Broken) → (records : List (List Cmd)) → Held text rows records → judge text (record { records = records; here = [] }) (decode 0 base part) ≡ refused 2 (base + at)
     unfolding judge decoded
-    turn_broken e r h = turned r h ∙ ap (λ (x : Step). judge text (record { records = r; here = s.here }) (decoded (base + at) at part x)) e
+    turn_broken e r h = turned r h ∙ ap (λ (x : Result (Cmd × ℕ) Stop). judge text (record { records = r; here = s.here }) (decoded (base + at) at part x)) e
 
     -- at the end of the commands a record is open
-    pub turn_end : 0 < length part → o ≡ End → (records : List (List Cmd)) → Held text ps pl n records → judge text (record { records = records; here = [] }) (decode 0 base part) ≡ refused 2 (base + at)
+    pub turn_end : 0 < length part → o ≡ (Err End) → (records : List (List Cmd)) → Held text rows records → judge text (record { records = records; here = [] }) (decode 0 base part) ≡ refused 2 (base + at)
     unfolding judge decoded finish
     turn_end l e r h =
-        turned r h ∙ ap (λ (x : Step). judge text (record { records = r; here = s.here }) (decoded (base + at) at part x)) e
+        turned r h ∙ ap (λ (x : Result (Cmd × ℕ) Stop). judge text (record { records = r; here = s.here }) (decoded (base + at) at part x)) e
         ∙ rw (ne_eqb (length s.here) 0 (λ z. absurd (omega (arith, l, s.begun z, step_ends part at (sym e ∙ is))))) refl
 
-    module _ {c : Cmd} {nx : Cursor} (e : o ≡ Command c nx) where
+    -- no command is read
+    pub turn_stopped : 0 < length part → (w : Stop) → o ≡ Err w → (records : List (List Cmd)) → Held text rows records → judge text (record { records = records; here = [] }) (decode 0 base part) ≡ refused 2 (base + at)
+    turn_stopped l Broken e = turn_broken e
+    turn_stopped l End e = turn_end l e
+
+    module _ {c : Cmd} {nx : ℕ} (e : o ≡ Ok (c, nx)) where
       moved : Moved part at c nx
       moved = step_moves part at c nx (sym e ∙ is)
-
-      pub turn_place : nx.at ≤ length part
-      turn_place = moved.within
 
       pub byte_known : c.op < 21
       byte_known = moved.byte
 
-      place : base + at + (nx.at - at) ≡ base + nx.at
+      place : base + at + (nx - at) ≡ base + nx
       place = omega (arith, moved.forth)
 
       -- the command at the head of what is left
-      headed : decode 0 (base + at) (drop at part) ≡ command (base + at) c (decode 0 (base + nx.at) (drop nx.at part))
+      headed : decode 0 (base + at) (drop at part) ≡ command (base + at) c (decode 0 (base + nx) (drop nx part))
       unfolding decoded
       headed =
           decode_step part at (base + at) ∙ ap (decoded (base + at) at part) (sym is ∙ e)
-          ∙ ap (λ (p : ℕ). command (base + at) c (decode 0 p (drop nx.at part))) place
+          ∙ ap (λ (p : ℕ). command (base + at) c (decode 0 p (drop nx part))) place
 
-      same_fault : (r : List (List Cmd)) → Held text ps pl n r → fault text (record { records = r; here = s.here }) c ≡ fault_of text (has ns) last n (texts text ks kl m) (texts text ps pl n) c
+      same_fault : (r : List (List Cmd)) → Held text rows r → fault text (record { records = r; here = s.here }) c ≡ fault_of text (has ns) last (length rows) (texts text ks) (texts text rows) c
       unfolding fault
       same_fault r h =
           rw (h.size, h.paths, s.keys, ← s.agrees.byte)
-          (ap (λ (f : ℕ → ℕ). fault_of text f last n (texts text ks kl m) (texts text ps pl n) c) (fun_ext (λ k. sym (s.agrees.each k))))
+          (ap (λ (f : ℕ → ℕ). fault_of text f last (length rows) (texts text ks) (texts text rows) c) (fun_ext (λ k. sym (s.agrees.each k))))
 
-      judged : (r : List (List Cmd)) → Held text ps pl n r → judge text (record { records = r; here = [] }) (decode 0 base part)
-          ≡ unless (fault_of text (has ns) last n (texts text ks kl m) (texts text ps pl n) c) (base + at) (λ b. judge text b (decode 0 (base + at + (nx.at - at)) (drop nx.at part))) (next (record { records = r; here = s.here }) c)
+      judged : (r : List (List Cmd)) → Held text rows r → judge text (record { records = r; here = [] }) (decode 0 base part)
+          ≡ unless (fault_of text (has ns) last (length rows) (texts text ks) (texts text rows) c) (base + at) (λ b. judge text b (decode 0 (base + at + (nx - at)) (drop nx part))) (next (record { records = r; here = s.here }) c)
       unfolding judge decoded
       judged r h =
-          turned r h ∙ ap (λ (x : Step). judge text (record { records = r; here = s.here }) (decoded (base + at) at part x)) e
-          ∙ ap (λ (f : Option ℕ). unless f (base + at) (λ b. judge text b (decode 0 (base + at + (nx.at - at)) (drop nx.at part))) (next (record { records = r; here = s.here }) c)) (same_fault r h)
+          turned r h ∙ ap (λ (x : Result (Cmd × ℕ) Stop). judge text (record { records = r; here = s.here }) (decoded (base + at) at part x)) e
+          ∙ ap (λ (f : Option ℕ). unless f (base + at) (λ b. judge text b (decode 0 (base + at + (nx - at)) (drop nx part))) (next (record { records = r; here = s.here }) c)) (same_fault r h)
 
-      module _ {f : ℕ} (d : f ≡ number (fault_of text (has ns) last n (texts text ks kl m) (texts text ps pl n) c)) where
-        pub turn_fault : (f ≡ 0 → ⊥) → (records : List (List Cmd)) → Held text ps pl n records → judge text (record { records = records; here = [] }) (decode 0 base part) ≡ refused f (base + at)
-        turn_fault z r h =
-            judged r h ∙ ap (λ (f : Option ℕ). unless f (base + at) (λ b. judge text b (decode 0 (base + at + (nx.at - at)) (drop nx.at part))) (next (record { records = r; here = s.here }) c))
-            (faulty text (has ns) last n (texts text ks kl m) (texts text ps pl n) c f d z)
+      pub turn_fault : (f : ℕ) → fault_of text (has ns) last (length rows) (texts text ks) (texts text rows) c ≡ Some f → (records : List (List Cmd)) → Held text rows records → judge text (record { records = records; here = [] }) (decode 0 base part) ≡ refused f (base + at)
+      turn_fault f d r h =
+          judged r h ∙ ap (λ (f : Option ℕ). unless f (base + at) (λ b. judge text b (decode 0 (base + at + (nx - at)) (drop nx part))) (next (record { records = r; here = s.here }) c)) d
 
-        module _ (z : f ≡ 0) where
-          pub is_clear : Clear text (has ns) last n (texts text ks kl m) (texts text ps pl n) c
-          is_clear = clear text (has ns) last n (texts text ks kl m) (texts text ps pl n) c (sym d ∙ z)
+      module _ (d : fault_of text (has ns) last (length rows) (texts text ks) (texts text rows) c ≡ None) where
+        pub is_clear : Clear text (has ns) last (length rows) (texts text ks) (texts text rows) c
+        is_clear = clear text (has ns) last (length rows) (texts text ks) (texts text rows) c d
 
-          went : (r : List (List Cmd)) → Held text ps pl n r → judge text (record { records = r; here = [] }) (decode 0 base part) ≡ judge text (next (record { records = r; here = s.here }) c) (decode 0 (base + nx.at) (drop nx.at part))
-          went r h =
-              judged r h ∙ ap (λ (f : Option ℕ). unless f (base + at) (λ b. judge text b (decode 0 (base + at + (nx.at - at)) (drop nx.at part))) (next (record { records = r; here = s.here }) c)) is_clear.none_at
-              ∙ ap (λ (p : ℕ). judge text (next (record { records = r; here = s.here }) c) (decode 0 p (drop nx.at part))) place
+        went : (r : List (List Cmd)) → Held text rows r → judge text (record { records = r; here = [] }) (decode 0 base part) ≡ judge text (next (record { records = r; here = s.here }) c) (decode 0 (base + nx) (drop nx part))
+        went r h =
+            judged r h ∙ ap (λ (f : Option ℕ). unless f (base + at) (λ b. judge text b (decode 0 (base + at + (nx - at)) (drop nx part))) (next (record { records = r; here = s.here }) c)) is_clear.none_at
+            ∙ ap (λ (p : ℕ). judge text (next (record { records = r; here = s.here }) c) (decode 0 p (drop nx part))) place
 
-          begins : length s.here ≡ 0 → c.op ≡ begin
-          unfolding tally
-          begins y = first_begins (has ns) last c is_clear.order moved.byte (λ k. s.agrees.each k ∙ empty s.here y k)
-            where
-              empty : (l : List Cmd) → length l ≡ 0 → (k : ℕ) → tally k l ≡ 0
-              empty [] y k = refl
-              empty (x ∷ l) y k = absurd (omega (arith, y))
+        begins : length s.here ≡ 0 → c.op ≡ begin
+        unfolding tally
+        begins y = first_begins (has ns) last c is_clear.order moved.byte (λ k. s.agrees.each k ∙ empty s.here y k)
+          where
+            empty : (l : List Cmd) → length l ≡ 0 → (k : ℕ) → tally k l ≡ 0
+            empty [] y k = refl
+            empty (x ∷ l) y k = absurd (omega (arith, y))
 
-          begin_only : (length s.here ≡ 0 → ⊥) → c.op ≡ begin → ⊥
-          begin_only y x = s.lead y (sym (s.agrees.each begin) ∙ begin_first (has ns) last c is_clear.order x)
+        begin_only : (length s.here ≡ 0 → ⊥) → c.op ≡ begin → ⊥
+        begin_only y x = s.lead y (sym (s.agrees.each begin) ∙ begin_first (has ns) last c is_clear.order x)
 
-          reads_end : c.op ≡ end → up_to_end (decode 0 base part) ≡ reverse s.here
-          unfolding up_to_end
-          reads_end q = s.reads ∙ rw (headed, eq-eqb _ _ q) refl
+        reads_end : c.op ≡ end → up_to_end (decode 0 base part) ≡ reverse s.here
+        unfolding up_to_end
+        reads_end q = s.reads ∙ rw (headed, eq-eqb _ _ q) refl
 
-          reads_on : (c.op ≡ end → ⊥) → up_to_end (decode 0 base part) ≡ reverse_aux (c ∷ s.here) (up_to_end (decode 0 (base + nx.at) (drop nx.at part)))
-          unfolding up_to_end
-          reads_on q = s.reads ∙ rw (headed, ne_eqb _ _ q) refl
+        reads_on : (c.op ≡ end → ⊥) → up_to_end (decode 0 base part) ≡ reverse_aux (c ∷ s.here) (up_to_end (decode 0 (base + nx) (drop nx part)))
+        unfolding up_to_end
+        reads_on q = s.reads ∙ rw (headed, ne_eqb _ _ q) refl
 
-          led_on : (l : List Cmd) → l ≡ s.here → first_op (c ∷ l) ≡ begin
-          unfolding first_op
-          led_on [] y = begins (ap length (sym y))
-          led_on (d ∷ ds) y = subst (λ (l : List Cmd). first_op l ≡ begin) (sym y) (s.led (omega (arith, ap length y)))
+        led_on : (l : List Cmd) → l ≡ s.here → first_op (c ∷ l) ≡ begin
+        unfolding first_op
+        led_on [] y = begins (ap length (sym y))
+        led_on (d ∷ ds) y = subst (λ (l : List Cmd). first_op l ≡ begin) (sym y) (s.led (omega (arith, ap length y)))
 
-          begins_on : (l : List Cmd) → l ≡ s.here → begins_of (decode 0 base part) ≡ base ∷ begins_of (decode 0 (base + nx.at) (drop nx.at part))
-          unfolding begins_of begun_at
-          begins_on [] y =
-              let z : at ≡ 0 = s.begun (ap length (sym y)) in
-              s.begins ∙ rw (← y, headed, eq-eqb c.op begin (begins (ap length (sym y))), z, add-zero base) refl
-          begins_on (d ∷ ds) y =
-              s.begins ∙ rw (← y, headed, ne_eqb c.op begin (begin_only (λ v. absurd (omega (arith, v, ap length y))))) refl
+        begins_on : (l : List Cmd) → l ≡ s.here → begins_of (decode 0 base part) ≡ base ∷ begins_of (decode 0 (base + nx) (drop nx part))
+        unfolding begins_of begun_at
+        begins_on [] y =
+            let z : at ≡ 0 = s.begun (ap length (sym y)) in
+            s.begins ∙ rw (← y, headed, eq-eqb c.op begin (begins (ap length (sym y))), z, add-zero base) refl
+        begins_on (d ∷ ds) y =
+            s.begins ∙ rw (← y, headed, ne_eqb c.op begin (begin_only (λ v. absurd (omega (arith, v, ap length y))))) refl
 
-          -- a record that ends has begun
-          opened_here : c.op ≡ end → 0 < length s.here
-          opened_here q = some_here s.here (λ y. absurd (omega (arith, q, begins y)))
-            where
-              some_here : (l : List Cmd) → (length l ≡ 0 → ⊥) → 0 < length l
-              some_here [] h = absurd (h refl)
-              some_here (x ∷ l) h = omega arith
+        -- a record that ends has begun
+        opened_here : c.op ≡ end → 0 < length s.here
+        opened_here q = some_here s.here (λ y. absurd (omega (arith, q, begins y)))
+          where
+            some_here : (l : List Cmd) → (length l ≡ 0 → ⊥) → 0 < length l
+            some_here [] h = absurd (h refl)
+            some_here (x ∷ l) h = omega arith
 
-          pub turn_long : c.op ≡ end → 4 < length part
-          turn_long q = (s.path (opened_here q)).1.1
+        pub turn_long : c.op ≡ end → 4 < length part
+        turn_long q = (s.path (opened_here q)).1.1
 
-          closed_here : c.op ≡ end → ClosedAs part base text ps pl n (base + nx.at) (word part 1) (word part 3)
-          unfolding next
-          closed_here q =
-              let l : 0 < length s.here = opened_here q in
-              record {
-                closed = s.here;
-                path = (s.path l).0;
-                within = (s.path l).1.0;
-                few = s.few l;
-                moves = (omega (arith, moved.forth), omega (arith, moved.within));
-                whole = λ r h. went r h ∙ rw (eq-eqb _ _ q) (ap (λ (k : ℕ). judge text (record { records = s.here ∷ r; here = [] }) (decode 0 (base + nx.at) (drop k part))) back);
-                reads = reads_end q;
-                named = path_named text s.here [] l (s.led l) ∙ (s.path l).0;
-                begun = begins_on s.here refl ∙ ap (λ (k : ℕ). base ∷ begins_of (decode 0 (base + nx.at) (drop k part))) back;
-              }
-            where
-              back : nx.at ≡ base + nx.at - base
-              back = omega arith
+        closed_here : c.op ≡ end → ClosedAs part base text rows (base + nx) (word part 1) (word part 3)
+        unfolding next
+        closed_here q =
+            let l : 0 < length s.here = opened_here q in
+            record {
+              closed = s.here;
+              path = (s.path l).0;
+              within = (s.path l).1.0;
+              few = s.few l;
+              moves = (omega (arith, moved.forth), omega (arith, moved.within));
+              whole = λ r h. went r h ∙ rw (eq-eqb _ _ q) (ap (λ (k : ℕ). judge text (record { records = s.here ∷ r; here = [] }) (decode 0 (base + nx) (drop k part))) back);
+              reads = reads_end q;
+              named = path_named text s.here [] l (s.led l) ∙ (s.path l).0;
+              begun = begins_on s.here refl ∙ ap (λ (k : ℕ). base ∷ begins_of (decode 0 (base + nx) (drop k part))) back;
+            }
+          where
+            back : nx ≡ base + nx - base
+            back = omega arith
 
-          pub turn_closed : c.op ≡ end → (start len : ℕ) → start ≡ word part 1 → len ≡ word part 3 → ClosedAs part base text ps pl n (base + nx.at) start len
-          turn_closed q start len a b = rw (a, b) (closed_here q)
+        pub turn_closed : c.op ≡ end → (start len : ℕ) → start ≡ word part 1 → len ≡ word part 3 → ClosedAs part base text rows (base + nx) start len
+        turn_closed q start len a b = rw (a, b) (closed_here q)
 
-          room_left : c.op ≡ key → m < 32
-          room_left y = subst (λ (j : ℕ). j < 32) (sym s.count) (keys_few (has ns) last c is_clear.order n y is_clear.few)
+        module _ {k : ℕ} (sl : slotted c ≡ Some k) where
+          pub turn_slot : k < 39
+          turn_slot = slot_small c moved.byte sl
 
-          module _ {k : ℕ} (sl : Slotted k c) where
-            pub slot_small : k < 39
-            slot_small = (in_slot (has ns) last c is_clear.order k sl).0
+          slot_is : k ≡ slot c
+          slot_is = (slotted_some c sl).1
 
-            pub slot_is : k ≡ slot c
-            slot_is = (in_slot (has ns) last c is_clear.order k sl).1
+          pub slot_room : has ns k < 255
+          slot_room = subst (λ (j : ℕ). has ns j < 255) (sym slot_is) (count_small (has ns) last c is_clear.order (length rows) moved.byte is_clear.few)
 
-            pub slot_room : has ns k < 255
-            slot_room = subst (λ (j : ℕ). has ns j < 255) (sym slot_is) (count_small (has ns) last c is_clear.order n moved.byte is_clear.few)
+          within_text : c.start + c.len ≤ length text
+          within_text = good_within text c is_clear.string
 
-            within_text : c.start + c.len ≤ length text
-            within_text = good_within text c is_clear.string
+          agrees_on : Agrees (pushed ns c k) c.op (c ∷ s.here)
+          agrees_on = subst (λ (j : ℕ). Agrees (pushed ns c j) c.op (c ∷ s.here)) (sym slot_is) (agree_push ns last c s.here s.agrees (subst (λ (j : ℕ). j < 39) slot_is turn_slot))
 
-            agrees_on : Agrees (pushed ns c k) c.op (c ∷ s.here)
-            agrees_on = subst (λ (j : ℕ). Agrees (pushed ns c j) c.op (c ∷ s.here)) (sym slot_is) (agree_push ns last c s.here s.agrees (subst (λ (j : ℕ). j < 39) slot_is slot_small))
+          module _ (ks' : List Seen) where
+            record Keyed : Type 0 where
+              keys : keys_of text (c ∷ s.here) ≡ texts text ks'
+              seen : AllSeen text ks'
+              more : length ks' ≡ cond (eqb c.op key) (suc (has ns key)) (has ns key)
 
-            module _ (ks' kl' km' : List ℕ) (m' : ℕ) where
-              record Keyed : Type 0 where
-                keys : keys_of text (c ∷ s.here) ≡ texts text ks' kl' m'
-                table : Table text ks' kl' m'
-                marks : Marked text ks' kl' km' m'
-                rows : (length ks' ≡ 32) × ((length kl' ≡ 32) × (length km' ≡ 32))
-                more : m' ≡ cond (eqb c.op key) (suc (has ns key)) (has ns key)
+            module _ (ak : ks' ≡ cond (eqb c.op key) (ks ++ row_of text c ∷ []) ks) where
+              keyed : Keyed
+              unfolding keys_of text_of
+              keyed =
+                  by_test (eqb c.op key)
+                  (λ y.
+                  rw (ak, y)
+                  record {
+                    keys = rw y (ap (λ (l : List Text). take c.len (drop c.start text) ∷ l) s.keys ∙ sym (texts_more text ks (row_of text c)));
+                    seen = All-push (IsSeen text) ks (row_of text c) s.seen (record { within = within_text; marked = refl });
+                    more = rw y (length-append ks (row_of text c ∷ []) ∙ add-one (length ks) ∙ ap suc (sym s.count));
+                  })
+                  (λ y. rw (ak, y) record { keys = rw y s.keys; seen = s.seen; more = rw y (sym s.count) })
 
-              module _ (am : m' ≡ cond (eqb c.op key) (m + 1) m) (ak : ks' ≡ cond (eqb c.op key) (set ks m c.start) ks) (al : kl' ≡ cond (eqb c.op key) (set kl m c.len) kl) (ad : km' ≡ cond (eqb c.op key) (set km m (digest_of (text_of text c))) km) where
-                keyed : Keyed
-                unfolding keys_of text_of
-                keyed =
-                    by_test (eqb c.op key)
-                    (λ y.
-                    let r = room_left (eqb-true c.op key y) in
-                    rw (am, ak, al, ad, y)
-                    record {
-                      keys = rw y (ap (λ (l : List Text). take c.len (drop c.start text) ∷ l) s.keys ∙ sym (texts_put 32 (omega arith) text ks kl m c.start c.len s.table within_text r s.rows.0 s.rows.1.0));
-                      table = table_put 32 (omega arith) text ks kl m c.start c.len s.table within_text r s.rows.0 s.rows.1.0;
-                      marks = marked_put 32 (omega arith) text ks kl m c.start c.len s.table within_text r s.rows.0 s.rows.1.0 km s.marks s.rows.1.1 (digest_of (text_of text c)) refl;
-                      rows = (length-set ks m c.start ∙ s.rows.0, (length-set kl m c.len ∙ s.rows.1.0, length-set km m (digest_of (text_of text c)) ∙ s.rows.1.1));
-                      more = rw y (add-one m ∙ ap suc s.count);
-                    })
-                    (λ y. rw (am, ak, al, ad, y) record { keys = rw y s.keys; table = s.table; marks = s.marks; rows = s.rows; more = rw y s.count })
+              count_on : has (pushed ns c k) key ≡ length ks'
+              unfolding tally
+              count_on =
+                  sym (keyed.more
+                  ∙ by_test (eqb c.op key)
+                  (λ y. rw y (ap suc (s.agrees.each key) ∙ sym (agrees_on.each key ∙ rw (slot_key c, y) refl)))
+                  (λ y. rw y (s.agrees.each key ∙ sym (agrees_on.each key ∙ rw (slot_key c, y) refl))))
 
-                count_on : m' ≡ has (pushed ns c k) key
-                unfolding tally
-                count_on =
-                    keyed.more
-                    ∙ by_test (eqb c.op key)
-                    (λ y. rw y (ap suc (s.agrees.each key) ∙ sym (agrees_on.each key ∙ rw (slot_key c, y) refl)))
-                    (λ y. rw y (s.agrees.each key ∙ sym (agrees_on.each key ∙ rw (slot_key c, y) refl)))
+              begin_slot : c.op ≡ begin → slot c ≡ begin
+              unfolding slot
+              begin_slot y = rw y refl
 
-                begin_slot : c.op ≡ begin → slot c ≡ begin
-                unfolding slot
-                begin_slot y = rw y refl
+              lead_on : tally begin (c ∷ s.here) ≡ 0 → ⊥
+              unfolding tally
+              lead_on y =
+                  by_test (eqb (slot c) begin)
+                  (λ a. let x : suc (tally begin s.here) ≡ 0 = rw a at y in omega (arith, x))
+                  (λ a. by_test (eqb (slot c) key)
+                  (λ b. let x : tally begin s.here ≡ 0 = rw (a, b) at y in rest a x)
+                  (λ b. let x : tally begin s.here ≡ 0 = rw (a, b) at y in rest a x))
+                where
+                  rest : eqb (slot c) begin ≡ false → tally begin s.here ≡ 0 → ⊥
+                  rest a x = s.lead (λ z. eqb-false (slot c) begin a (begin_slot (begins z))) x
 
-                lead_on : tally begin (c ∷ s.here) ≡ 0 → ⊥
-                unfolding tally
-                lead_on y =
-                    by_test (eqb (slot c) begin)
-                    (λ a. let x : suc (tally begin s.here) ≡ 0 = rw a at y in omega (arith, x))
-                    (λ a. by_test (eqb (slot c) key)
-                    (λ b. let x : tally begin s.here ≡ 0 = rw (a, b) at y in rest a x)
-                    (λ b. let x : tally begin s.here ≡ 0 = rw (a, b) at y in rest a x))
-                  where
-                    rest : eqb (slot c) begin ≡ false → tally begin s.here ≡ 0 → ⊥
-                    rest a x = s.lead (λ z. eqb-false (slot c) begin a (begin_slot (begins z))) x
+              path_on : (l : List Cmd) → l ≡ s.here → (path_of text (c ∷ l) ≡ take (word part 3) (drop (word part 1) text)) × ((word part 1 + word part 3 ≤ length text) × (4 < length part))
+              unfolding path_of text_of
+              path_on [] y =
+                  let b = step_begins part c nx (sym e ∙ is ∙ ap (step_at part) (s.begun (ap length (sym y)))) (begins (ap length (sym y))) in
+                  rw (← b.start, ← b.len) (refl, (within_text, b.long))
+              path_on (d ∷ ds) y =
+                  subst (λ (l : List Cmd). (path_of text l ≡ take (word part 3) (drop (word part 1) text)) × ((word part 1 + word part 3 ≤ length text) × (4 < length part))) (sym y) (s.path (omega (arith, ap length y)))
 
-                path_on : (l : List Cmd) → l ≡ s.here → (path_of text (c ∷ l) ≡ take (word part 3) (drop (word part 1) text)) × ((word part 1 + word part 3 ≤ length text) × (4 < length part))
-                unfolding path_of text_of
-                path_on [] y =
-                    let b = step_begins part c nx (sym e ∙ is ∙ ap (step_at part) (s.begun (ap length (sym y)))) (begins (ap length (sym y))) in
-                    rw (← b.start, ← b.len) (refl, (within_text, b.long))
-                path_on (d ∷ ds) y =
-                    subst (λ (l : List Cmd). (path_of text l ≡ take (word part 3) (drop (word part 1) text)) × ((word part 1 + word part 3 ≤ length text) × (4 < length part))) (sym y) (s.path (omega (arith, ap length y)))
+              few_on : (l : List Cmd) → l ≡ s.here → length rows < 64
+              few_on [] y = begin_few (has ns) last c is_clear.order (length rows) (begins (ap length (sym y))) is_clear.few
+              few_on (d ∷ ds) y = s.few (omega (arith, ap length y))
 
-                few_on : (l : List Cmd) → l ≡ s.here → n < 64
-                few_on [] y = begin_few (has ns) last c is_clear.order n (begins (ap length (sym y))) is_clear.few
-                few_on (d ∷ ds) y = s.few (omega (arith, ap length y))
+              turn_here : (c.op ≡ end → ⊥) → Sofar (pushed ns c k) c.op ks' nx
+              unfolding next begun_at
+              turn_here q =
+                  record {
+                    here = c ∷ s.here;
+                    agrees = agrees_on;
+                    keys = keyed.keys;
+                    seen = keyed.seen;
+                    count = count_on;
+                    path = λ h. path_on s.here refl;
+                    few = λ h. few_on s.here refl;
+                    begun = λ h. absurd (omega (arith, h));
+                    lead = λ h. lead_on;
+                    place = moved.within;
+                    whole = λ r h. went r h ∙ rw (ne_eqb c.op end q) refl;
+                    reads = reads_on q;
+                    led = λ h. led_on s.here refl;
+                    begins = begins_on s.here refl;
+                  }
 
-                turn_here : (c.op ≡ end → ⊥) → Sofar (pushed ns c k) c.op ks' kl' km' m' nx.at
-                unfolding next begun_at
-                turn_here q =
-                    record {
-                      here = c ∷ s.here;
-                      agrees = agrees_on;
-                      keys = keyed.keys;
-                      table = keyed.table;
-                      marks = keyed.marks;
-                      count = count_on;
-                      rows = keyed.rows;
-                      path = λ h. path_on s.here refl;
-                      few = λ h. few_on s.here refl;
-                      begun = λ h. absurd (omega (arith, h));
-                      lead = λ h. lead_on;
-                      place = moved.within;
-                      whole = λ r h. went r h ∙ rw (ne_eqb c.op end q) refl;
-                      reads = reads_on q;
-                      led = λ h. led_on s.here refl;
-                      begins = begins_on s.here refl;
-                    }
+              pub turn_on : (c.op ≡ end → ⊥) → (ns' : List ℕ) → ns' ≡ pushed ns c k → (last' : ℕ) → last' ≡ c.op → Sofar ns' last' ks' nx
+              turn_on q ns' y last' z = rw (y, z) (turn_here q)
 
-                pub turn_on : (c.op ≡ end → ⊥) → (ns' : List ℕ) → ns' ≡ pushed ns c k → (last' : ℕ) → last' ≡ c.op → Sofar ns' last' ks' kl' km' m' nx.at
-                turn_on q ns' y last' z = rw (y, z) (turn_here q)
+        pub turn_less : length part - nx < length part - at
+        turn_less = omega (arith, moved.forth, moved.within)
 
-          pub turn_less : length part - nx.at < length part - at
-          turn_less = omega (arith, moved.forth, moved.within)
+      -- what is wrong with the command but for the keys before it
+      pub turn_refused : (f : ℕ) → fault_of text (has ns) last (length rows) [] (texts text rows) c ≡ Some f → (records : List (List Cmd)) → Held text rows records → judge text (record { records = records; here = [] }) (decode 0 base part) ≡ refused f (base + at)
+      turn_refused f d = turn_fault f (fault_kept text (has ns) last (length rows) (texts text ks) (texts text rows) c f d)
 
-      -- f is what is wrong with the command but for the keys before it
-      module _ {f : ℕ} (d : f ≡ number (fault_of text (has ns) last n [] (texts text ps pl n) c)) where
-        pub turn_refused : (f ≡ 0 → ⊥) → (records : List (List Cmd)) → Held text ps pl n records → judge text (record { records = records; here = [] }) (decode 0 base part) ≡ refused f (base + at)
-        turn_refused z = turn_fault (fault_kept text (has ns) last n (texts text ks kl m) (texts text ps pl n) c f d z) z
+      module _ (d : fault_of text (has ns) last (length rows) [] (texts text rows) c ≡ None) where
+        given : fault_of text (has ns) last (length rows) (texts text ks) (texts text rows) c ≡ cond (cond (eqb c.op key) (some_of (meets false (text_of text c)) (texts text ks)) false) (Some 6) None
+        given = fault_given text (has ns) last (length rows) (texts text ks) (texts text rows) c d
 
-        module _ (z : f ≡ 0) where
-          given : number (fault_of text (has ns) last n (texts text ks kl m) (texts text ps pl n) c) ≡ number (cond (cond (eqb c.op key) (some_of (meets false (text_of text c)) (texts text ks kl m)) false) (some 6) none)
-          given = fault_given text (has ns) last n (texts text ks kl m) (texts text ps pl n) c (sym d ∙ z)
+        -- a key given before
+        pub turn_met : c.op ≡ key → some_of (meets false (text_of text c)) (texts text ks) ≡ true → (records : List (List Cmd)) → Held text rows records → judge text (record { records = records; here = [] }) (decode 0 base part) ≡ refused 6 (base + at)
+        turn_met k g = turn_fault 6 (given ∙ rw (eq-eqb _ _ k, g) refl)
 
-          -- a key given before
-          pub turn_met : c.op ≡ key → some_of (meets false (text_of text c)) (texts text ks kl m) ≡ true → (records : List (List Cmd)) → Held text ps pl n records → judge text (record { records = records; here = [] }) (decode 0 base part) ≡ refused 6 (base + at)
-          turn_met k g = turn_fault {f = 6} (sym (given ∙ rw (eq-eqb _ _ k, g) refl)) (λ h. absurd (omega (arith, h)))
-
-          -- any other command
-          pub clear_on : (c.op ≡ key → ⊥) → 0 ≡ number (fault_of text (has ns) last n (texts text ks kl m) (texts text ps pl n) c)
-          clear_on k = sym (given ∙ rw (ne_eqb _ _ k) refl)
+        -- any other command
+        pub clear_on : (c.op ≡ key → ⊥) → fault_of text (has ns) last (length rows) (texts text ks) (texts text rows) c ≡ None
+        clear_on k = given ∙ rw (ne_eqb _ _ k) refl
 
   -- before the first command
-  pub sofar_none : (ns : List ℕ) (last : ℕ) (ks kl km : List ℕ) → ns ≡ replicate 39 0 → last ≡ 0 → length ks ≡ 32 → length kl ≡ 32 → length km ≡ 32 → Sofar ns last ks kl km 0 0
+  pub sofar_none : (ns : List ℕ) (last : ℕ) (ks : List Seen) → ns ≡ replicate 39 0 → last ≡ 0 → ks ≡ [] → Sofar ns last ks 0
   unfolding keys_of texts begun_at
-  sofar_none ns last ks kl km e f a b d =
+  sofar_none ns last ks e f z =
       record {
         here = [];
         agrees = agree_none ns last e f;
-        keys = refl;
-        table = record { starts_there = omega arith; lens_there = omega arith; small = omega arith; within = λ i h. absurd (omega (arith, h)) };
-        marks = record { there = omega arith; each = λ i h. absurd (omega (arith, h)) };
-        count = sym (ap (λ (l : List ℕ). get_or l 11 0) e);
-        rows = (a, (b, d));
+        keys = rw z refl;
+        seen = rw z (All-nil (IsSeen text));
+        count = ap (λ (l : List ℕ). get_or l 11 0) e ∙ sym (ap length z);
         path = λ h. absurd (omega (arith, h));
         few = λ h. absurd (omega (arith, h));
         begun = λ h. refl;

@@ -1,22 +1,16 @@
+use mathlib.Core.Path.{refl}
 use borrow.Author.Tests.{eq-eqb, ne_eqb}
 use Rattle.book.specs.Command.{operands}
-use native.Mathlib.Omega.{arith}
 use Rattle.book.proofs.read.Goals as goal
 
-pub word_at-start-requires : goal.word_at-start-requires
-word_at-start-requires c = omega (arith, c.requires.0, c.if-w-eq5.true)
-
-pub word_at-len-requires : goal.word_at-len-requires
-word_at-len-requires c = omega (arith, c.requires.0, c.if-w-eq5.true)
-
-pub returns-then-w-eq5 : goal.returns-then-w-eq5
+pub returns-in-5 : goal.returns-in-5
 unfolding operands
-returns-then-w-eq5 c = simp (ne_eqb _ _ c.requires.1, eq-eqb _ _ c.if-w-eq5.true, c.word_at-start.ensures, c.word_at-len.ensures)
+returns-in-5 c = simp (ne_eqb _ _ c.requires.1, eq-eqb _ _ c.in-5.is, c.word_at.ensures, c.word_at-in-5.ensures)
 
-pub returns-then-w-eq2 : goal.returns-then-w-eq2
+pub returns-in-2 : goal.returns-in-2
 unfolding operands
-returns-then-w-eq2 c = simp (ne_eqb _ _ c.requires.1, ne_eqb _ _ c.if-w-eq5.false, eq-eqb _ _ c.if-w-eq2.true)
+returns-in-2 c = rw c.in-2.is refl
 
-pub returns : goal.returns
+pub returns-in_default : goal.returns-in_default
 unfolding operands
-returns c = simp (ne_eqb _ _ c.requires.1, ne_eqb _ _ c.if-w-eq5.false, ne_eqb _ _ c.if-w-eq2.false)
+returns-in_default c = simp (ne_eqb c.args.w 4 c.requires.1, ne_eqb c.args.w 5 c.in_default.in_default-own.rest.0.1, ne_eqb c.args.w 2 c.in_default.in_default-own.rest.1)

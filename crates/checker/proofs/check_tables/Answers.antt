@@ -1,20 +1,21 @@
-use mathlib.Core.Path.{refl}
+use mathlib.Core.Path.{refl, ap, ◌∙◌}
+use Rattle.compare.specs.Compare.{digest_of}
+use Rattle.checker.proofs.Books.{booked_none, booked_end, booked_on, size_commands, size_text}
+use Rattle.checker.proofs.check_tables.Goals.{then-commands-gt-MOST_COMMANDS-via-then-commands-gt-MOST_COMMANDS, then-commands-gt-MOST_COMMANDS-via-else-commands-gt-MOST_COMMANDS+then-text-gt-MOST_TEXT}
 use Rattle.checker.proofs.check_tables.Goals as goal
 
-pub slice_bounds-check_records-end : goal.slice_bounds-check_records-end
-slice_bounds-check_records-end c = refl
+pub returns-then-commands-gt-MOST_COMMANDS : goal.returns-then-commands-gt-MOST_COMMANDS
+returns-then-commands-gt-MOST_COMMANDS c =
+    elim c.then-commands-gt-MOST_COMMANDS.branch [
+      | then-commands-gt-MOST_COMMANDS-via-then-commands-gt-MOST_COMMANDS w ↦ size_commands _ _ w.if-commands-gt-MOST_COMMANDS.true
+      | then-commands-gt-MOST_COMMANDS-via-else-commands-gt-MOST_COMMANDS+then-text-gt-MOST_TEXT w ↦ size_text _ _ w.if-commands-gt-MOST_COMMANDS.false w.if-text-gt-MOST_TEXT.true
+    ]
 
-pub check_records-requires : goal.check_records-requires
-check_records-requires c = (c.requires.0, (c.requires.1.0, (c.requires.1.1, refl)))
+pub loop-at-init : goal.loop-at-init
+loop-at-init c = booked_none _ _ c.if-commands-gt-MOST_COMMANDS.false c.if-text-gt-MOST_TEXT.false _ _ _ _ c.requires.0 c.requires.1.0 c.requires.1.1 refl
 
-pub shape_of-begins : goal.shape_of-begins
-shape_of-begins c = c.begins-1.given
-
-pub shape_of-starts : goal.shape_of-starts
-shape_of-starts c = c.starts-1.given
-
-pub shape_of-lens : goal.shape_of-lens
-shape_of-lens c = c.lens-1.given
+pub loop-at-preserved : goal.loop-at-preserved
+loop-at-preserved c = booked_on _ _ c.loop-at.invariant _ c.from.ensures _ c.check_record.ensures _ c.in_ok-c.was _ (c.digest.ensures ∙ ap digest_of c.piece.ensures)
 
 pub returns : goal.returns
-returns c = c.check_records.ensures
+returns c = booked_end _ _ c.loop-at.invariant c.loop-at-test.false

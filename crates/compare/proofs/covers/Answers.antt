@@ -1,15 +1,14 @@
-use Rattle.compare.proofs.Ways.{over_short, over_same, over_other, over_under}
-use native.Mathlib.Omega.{arith}
+use Rattle.std.proofs.Common.{arith}
+use Rattle.std.proofs.lemmas.Bool.Decides.{nat_tests}
+use Rattle.text.proofs.Scans.{prefix_as_std}
+use Rattle.compare.proofs.Ways.{over_by}
 use Rattle.compare.proofs.covers.Goals as goal
 
-pub returns-then-q-n : goal.returns-then-q-n
-returns-then-q-n c = over_short c.args.p.now c.args.q.now c.if-q-n.true
+pub returns-then-q-n-eq-SLASH : goal.returns-then-q-n-eq-SLASH
+returns-then-q-n-eq-SLASH c =
+    let e = prefix_as_std _ c.args.p.now c.args.q.now c.eq.ensures in
+    let w = over_by c.args.p.now c.args.q.now in
+    grind (arith, nat_tests)
 
-pub returns-then-q-n-2 : goal.returns-then-q-n-2
-returns-then-q-n-2 c = over_same c.args.p.now c.args.q.now c.if-q-n-2.true _ c.begins.ensures
-
-pub returns-then-q-n-ne-SLASH : goal.returns-then-q-n-ne-SLASH
-returns-then-q-n-ne-SLASH c = over_other c.args.p.now c.args.q.now (omega arith) c.if-q-n-ne-SLASH.true
-
-pub returns : goal.returns
-returns c = over_under c.args.p.now c.args.q.now (omega arith) c.if-q-n-ne-SLASH.false _ c.begins-2.ensures
+pub returns-else-q-n-eq-SLASH : goal.returns-else-q-n-eq-SLASH
+returns-else-q-n-eq-SLASH c = let w = over_by c.args.p.now c.args.q.now in grind (arith, nat_tests)

@@ -1,5 +1,6 @@
-use Rattle.compare.proofs.Ways.{digest_whole}
+use Rattle.compare.specs.Compare.{digest_of}
 use Rattle.compare.proofs.digest.Goals as goal
 
 pub returns : goal.returns
-returns c = digest_whole _ _ _ _ c.mix-all.ensures c.low_half-key.ensures c.low_half-path.ensures
+unfolding digest_of
+returns c = cc

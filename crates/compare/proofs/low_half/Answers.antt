@@ -1,8 +1,12 @@
-use Rattle.compare.proofs.Ways.{half_none, half_there}
+use Rattle.std.proofs.Common.{arith}
+use Rattle.std.proofs.lemmas.Bool.Decides.{nat_tests}
+use Rattle.compare.specs.Compare.{low_half}
 use Rattle.compare.proofs.low_half.Goals as goal
 
 pub returns-then-n-k : goal.returns-then-n-k
-returns-then-n-k c = half_none _ _ c.if-n-k.true
+unfolding low_half
+returns-then-n-k c = grind (arith, nat_tests)
 
 pub returns : goal.returns
-returns c = half_there _ _ c.if-n-k.false
+unfolding low_half
+returns c = grind (arith, nat_tests)

@@ -1,12 +1,8 @@
-use mathlib.Core.Path.{refl}
-use Rattle.compare.proofs.Ways.{mix_step, mix_end}
+use Rattle.std.proofs.Common.{rules, ◌∙◌, bit_xor}
+use Rattle.std.proofs.lemmas.Iterator.{YieldsList-from_slice}
+use Rattle.std.proofs.lemmas.Iterator.Consumers.{fold_from_yields_List}
+use Rattle.compare.proofs.Ways.{mix_as_fold}
 use Rattle.compare.proofs.mix.Goals as goal
 
-pub loop-i-init : goal.loop-i-init
-loop-i-init c = refl
-
-pub loop-i-preserved : goal.loop-i-preserved
-loop-i-preserved c = mix_step _ _ _ _ c.loop-i-test.true c.loop-i.invariant
-
 pub returns : goal.returns
-returns c = mix_end _ _ _ _ c.loop-i-test.false c.loop-i.invariant
+returns c = fold_from_yields_List _ bit_xor 0 _ c.fold.ensures.ran (YieldsList-from_slice c.args.s.now cc) (λ a x b q k. search rules) ∙ mix_as_fold 0 c.args.s.now

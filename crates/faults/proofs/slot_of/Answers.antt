@@ -1,25 +1,25 @@
-use mathlib.Core.Path.{refl, sym, ◌∙◌}
-use Rattle.faults.proofs.Keeps.{slot_flag_id, slot_flag_value, slot_flag_on, slot_text_id, slot_text_on, slot_on}
+use mathlib.Core.Path.{ap, ◌∙◌}
+use Prim.Native.Nat.{ℕ, ◌+◌}
+use borrow.Author.Rules.{rules}
 use native.Mathlib.Omega.{arith}
+use Rattle.std.specs.Prelude.{Some}
+use Rattle.faults.proofs.Keeps.{slot_flag, slot_flag_id, slot_flag_value, slot_text, slot_text_id, slot_byte}
 use Rattle.faults.proofs.slot_of.Goals as goal
 
-pub returns-then-op-lt-FLAG : goal.returns-then-op-lt-FLAG
-returns-then-op-lt-FLAG c = slot_on c.args.c _ _ c.wide.ensures.0 refl (λ h. absurd (omega (arith, h, c.wide.ensures.0, c.if-op-lt-FLAG.true))) (λ h. absurd (omega (arith, h, c.wide.ensures.0, c.if-op-lt-FLAG.true))) (omega (arith, c.requires, c.wide.ensures.0))
+pub returns-in-18 : goal.returns-in-18
+returns-in-18 c = ap (λ (i : ℕ). Some (21 + i)) c.from.ensures ∙ slot_flag c.args.c c.in-18.is (omega arith) (omega arith)
 
-pub returns-then-id-gt10 : goal.returns-then-id-gt10
-returns-then-id-gt10 c = slot_flag_id c.args.c _ _ refl c.wide-id.ensures.0 c.if-op-eq-FLAG.true c.if-id-gt10.true
+pub returns-in-19 : goal.returns-in-19
+returns-in-19 c = ap (λ (i : ℕ). Some (32 + i)) c.from-in-19.ensures ∙ slot_text c.args.c c.in-19.is (omega arith)
 
-pub returns-then-value-gt1 : goal.returns-then-value-gt1
-returns-then-value-gt1 c = slot_flag_value c.args.c _ _ refl c.wide-id.ensures.0 c.if-op-eq-FLAG.true c.if-id-gt10.false c.if-value-gt1.true
+pub returns-in_default : goal.returns-in_default
+returns-in_default c = ap (λ (i : ℕ). Some i) c.from-in_default.ensures ∙ slot_byte c.args.c (search rules) (search rules)
 
-pub returns-then-op-eq-FLAG : goal.returns-then-op-eq-FLAG
-returns-then-op-eq-FLAG c = slot_flag_on c.args.c _ _ refl c.wide-id.ensures.0 c.if-op-eq-FLAG.true c.if-id-gt10.false c.if-value-gt1.false
+pub returns-in-18-2 : goal.returns-in-18-2
+returns-in-18-2 c = slot_flag_value c.args.c c.in-18.is (omega arith)
 
-pub returns-then-id-gt6 : goal.returns-then-id-gt6
-returns-then-id-gt6 c = slot_text_id c.args.c _ _ refl c.wide-id.ensures.0 c.if-op-eq-FLAG.false c.if-op-eq-TEXT_OPTION.true c.if-id-gt6.true
+pub returns-in-18-2-2 : goal.returns-in-18-2-2
+returns-in-18-2-2 c = slot_flag_id c.args.c c.in-18.is (omega arith)
 
-pub returns-then-op-eq-TEXT_OPTION : goal.returns-then-op-eq-TEXT_OPTION
-returns-then-op-eq-TEXT_OPTION c = slot_text_on c.args.c _ _ refl c.wide-id.ensures.0 c.if-op-eq-FLAG.false c.if-op-eq-TEXT_OPTION.true c.if-id-gt6.false
-
-pub returns : goal.returns
-returns c = slot_on c.args.c _ _ c.wide-2.ensures.0 c.wide-id.ensures.0 (let e = c.wide-2.ensures.0 in λ h. c.if-op-eq-FLAG.false (sym e ∙ h)) (let e = c.wide-2.ensures.0 in λ h. c.if-op-eq-TEXT_OPTION.false (sym e ∙ h)) (omega (arith, c.requires, c.wide-2.ensures.0))
+pub returns-in-18-2-3 : goal.returns-in-18-2-3
+returns-in-18-2-3 c = slot_text_id c.args.c c.in-19.is (omega arith)

@@ -1,14 +1,13 @@
-use Rattle.path_rules.proofs.Places.{last_first, last_second, last_third, last_on}
+use Rattle.std.proofs.Common.{arith}
+use Rattle.std.proofs.lemmas.Bool.Decides.{nat_tests}
+use Rattle.text.specs.Text.{each_of}
+use Rattle.normal.specs.Scan.{names_behind}
 use Rattle.path_rules.proofs.ends_free.Goals as goal
 
-pub returns-then-not-is_free : goal.returns-then-not-is_free
-returns-then-not-is_free c = last_first c.args.x c.args.y c.args.z _ c.is_free.ensures c.if-not-is_free.true
+pub returns-then-not-no_name-2 : goal.returns-then-not-no_name-2
+unfolding each_of names_behind
+returns-then-not-no_name-2 c = grind (arith, nat_tests)
 
-pub returns-then-not-is_free-2 : goal.returns-then-not-is_free-2
-returns-then-not-is_free-2 c = last_second c.args.x c.args.y c.args.z _ c.is_free.ensures c.if-not-is_free.false _ c.is_free-2.ensures c.if-not-is_free-2.true
-
-pub returns-then-not-is_free-3 : goal.returns-then-not-is_free-3
-returns-then-not-is_free-3 c = last_third c.args.x c.args.y c.args.z _ c.is_free.ensures c.if-not-is_free.false _ c.is_free-2.ensures c.if-not-is_free-2.false _ c.is_free-3.ensures c.if-not-is_free-3.true
-
-pub returns : goal.returns
-returns c = last_on c.args.x c.args.y c.args.z _ c.is_free.ensures c.if-not-is_free.false _ c.is_free-2.ensures c.if-not-is_free-2.false _ c.is_free-3.ensures c.if-not-is_free-3.false c.no_name-last.result c.no_name.result c.no_name-2.result c.no_name-last.ensures c.no_name.ensures c.no_name-2.ensures
+pub returns-else-not-no_name-2 : goal.returns-else-not-no_name-2
+unfolding each_of names_behind
+returns-else-not-no_name-2 c = grind (arith, nat_tests)

@@ -1,8 +1,13 @@
-use Rattle.patterns.proofs.Ways.{pattern_bracket, pattern_stars}
+use Rattle.std.proofs.Common.{arith}
+use Rattle.std.proofs.lemmas.Bool.Decides.{nat_tests}
+use Rattle.patterns.specs.Patterns.{pattern_text}
+use Rattle.patterns.proofs.Stars.{apart_whole}
 use Rattle.patterns.proofs.is_pattern_text.Goals as goal
 
-pub returns-then-not-lacks_brackets : goal.returns-then-not-lacks_brackets
-returns-then-not-lacks_brackets c = pattern_bracket c.args.s.now _ c.lacks_brackets.ensures c.if-not-lacks_brackets.true
+pub returns-then-lacks_brackets : goal.returns-then-lacks_brackets
+unfolding pattern_text
+returns-then-lacks_brackets c = let e = apart_whole c.args.s.now in grind (arith, nat_tests)
 
-pub returns : goal.returns
-returns c = pattern_stars c.args.s.now _ c.lacks_brackets.ensures c.if-not-lacks_brackets.false _ c.has_stars_apart.ensures
+pub returns-else-lacks_brackets : goal.returns-else-lacks_brackets
+unfolding pattern_text
+returns-else-lacks_brackets c = grind (arith, nat_tests)

@@ -1,123 +1,57 @@
-use mathlib.Core.Path.{refl, sym, ◌∙◌}
+use mathlib.Core.Path.{◌≡◌, sym, ap, subst, ◌∙◌}
+use Prim.Native.Nat.{ℕ, ◌+◌}
+use borrow.Author.Rules.{rules}
+use Rattle.std.specs.Prelude.{Result, Err, Some}
+use Rattle.std.specs.Result.{IfOk}
+use Rattle.book.specs.declared.Fault.{Fault}
+use Rattle.book.specs.State.{slotted}
+use Rattle.record_checker.proofs.Mapped.{mapped_ok, mapped_err}
 use native.Mathlib.Omega.{arith}
-use Rattle.verdicts.proofs.Turns.{sofar_none, turn_broken, turn_end, turn_refused, turn_less, byte_known, slot_small, slot_room}
+use Rattle.book.specs.Refusals.{told}
+use Rattle.verdicts.proofs.Turns.{sofar_none, turn_stopped, turn_refused, turn_less, byte_known, turn_slot, slot_room}
 use Rattle.record_checker.proofs.Passes.{moved_on, stood}
 use Rattle.record_checker.proofs.Ends.{ended_long, ended_closed, no_end, left_key, key_refused, clear_here, looked_on}
 use Rattle.record_checker.proofs.check_record.Goals as goal
 
-pub loop-last-init : goal.loop-last-init
-loop-last-init c = sofar_none _ _ _ _ _ _ _ _ _ _ _ refl refl c.requires.ks_len.0 c.requires.ks_len.1.0 c.requires.ks_len.1.1
+pub loop-at-init : goal.loop-at-init
+loop-at-init c = sofar_none _ _ _ _ _ _ _ c.new-tally.ensures.0 c.new-tally.ensures.1 c.clear.ensures
 
-pub slice_bounds-pass-end : goal.slice_bounds-pass-end
-slice_bounds-pass-end c = sym c.loop-last.invariant.agrees.size
+pub loop-at-smaller-then-at-to : goal.loop-at-smaller-then-at-to
+loop-at-smaller-then-at-to c = omega (arith, c.if-at-to.true, (moved_on _ _ _ _ c.loop-at.invariant c.pass-to.ensures).place)
 
-pub pass-to-requires : goal.pass-to-requires
-pass-to-requires c = record { counts_len = c.loop-last.invariant.agrees.size; text_value = c.requires.text_value; ks_len = c.loop-last.invariant.rows; table = (c.loop-last.invariant.table, c.loop-last.invariant.marks) }
+pub loop-at-preserved-then-at-to : goal.loop-at-preserved-then-at-to
+loop-at-preserved-then-at-to c = moved_on _ _ _ _ c.loop-at.invariant c.pass-to.ensures
 
-pub bounds-part-at : goal.bounds-part-at
-bounds-part-at c = omega (arith, c.if-at-to.true, (moved_on _ _ _ _ _ _ c.loop-last.invariant c.pass-to.ensures c.if-at-to.true).place)
+pub word_at-requires : goal.word_at-requires
+word_at-requires c = omega (arith, ended_long _ _ _ _ (stood _ _ _ _ c.loop-at.invariant c.pass-to.ensures c.if-at-to.false) _ c.is_ended.ensures c.if-is_ended.true)
 
-pub loop-last-smaller-then-at-to : goal.loop-last-smaller-then-at-to
-loop-last-smaller-then-at-to c = omega (arith, c.if-at-to.true, (moved_on _ _ _ _ _ _ c.loop-last.invariant c.pass-to.ensures c.if-at-to.true).place)
-
-pub loop-last-preserved-then-at-to : goal.loop-last-preserved-then-at-to
-loop-last-preserved-then-at-to c = moved_on _ _ _ _ _ _ c.loop-last.invariant c.pass-to.ensures c.if-at-to.true
-
-pub overflow_add-place : goal.overflow_add-place
-overflow_add-place c = omega (arith, c.requires.part_nonzero.1, c.loop-last.invariant.place)
-
-pub slice_bounds-is_ended-end : goal.slice_bounds-is_ended-end
-slice_bounds-is_ended-end c = sym (stood _ _ _ _ _ _ c.loop-last.invariant c.pass-to.ensures c.if-at-to.false).agrees.size
-
-pub is_ended-requires : goal.is_ended-requires
-is_ended-requires c = (stood _ _ _ _ _ _ c.loop-last.invariant c.pass-to.ensures c.if-at-to.false).agrees.size
-
-pub overflow_add-end : goal.overflow_add-end
-overflow_add-end c = omega (arith, c.requires.part_nonzero.1, c.loop-last.invariant.place)
-
-pub word_at-start-requires : goal.word_at-start-requires
-word_at-start-requires c = omega (arith, ended_long _ _ _ _ _ _ (stood _ _ _ _ _ _ c.loop-last.invariant c.pass-to.ensures c.if-at-to.false) _ c.is_ended.ensures c.if-is_ended.true)
-
-pub word_at-len-requires : goal.word_at-len-requires
-word_at-len-requires c = omega (arith, ended_long _ _ _ _ _ _ (stood _ _ _ _ _ _ c.loop-last.invariant c.pass-to.ensures c.if-at-to.false) _ c.is_ended.ensures c.if-is_ended.true)
-
-pub shape_of-ks-then-is_ended : goal.shape_of-ks-then-is_ended
-shape_of-ks-then-is_ended c = (stood _ _ _ _ _ _ c.loop-last.invariant c.pass-to.ensures c.if-at-to.false).rows.0 ∙ sym c.requires.ks_len.0
-
-pub shape_of-kl-then-is_ended : goal.shape_of-kl-then-is_ended
-shape_of-kl-then-is_ended c = (stood _ _ _ _ _ _ c.loop-last.invariant c.pass-to.ensures c.if-at-to.false).rows.1.0 ∙ sym c.requires.ks_len.1.0
-
-pub shape_of-km-then-is_ended : goal.shape_of-km-then-is_ended
-shape_of-km-then-is_ended c = (stood _ _ _ _ _ _ c.loop-last.invariant c.pass-to.ensures c.if-at-to.false).rows.1.1 ∙ sym c.requires.ks_len.1.1
+pub word_at-requires-then-is_ended : goal.word_at-requires-then-is_ended
+word_at-requires-then-is_ended c = omega (arith, ended_long _ _ _ _ (stood _ _ _ _ c.loop-at.invariant c.pass-to.ensures c.if-at-to.false) _ c.is_ended.ensures c.if-is_ended.true)
 
 pub returns-then-is_ended : goal.returns-then-is_ended
-returns-then-is_ended c = ended_closed _ _ _ _ _ _ (stood _ _ _ _ _ _ c.loop-last.invariant c.pass-to.ensures c.if-at-to.false) _ c.is_ended.ensures c.if-is_ended.true _ _ c.word_at-start.ensures c.word_at-len.ensures
+returns-then-is_ended c = ended_closed _ _ _ _ (stood _ _ _ _ c.loop-at.invariant c.pass-to.ensures c.if-at-to.false) _ c.is_ended.ensures c.if-is_ended.true _ _ c.word_at.ensures c.word_at-then-is_ended.ensures
 
-pub shape_of-ks-in-End : goal.shape_of-ks-in-End
-shape_of-ks-in-End c = (stood _ _ _ _ _ _ c.loop-last.invariant c.pass-to.ensures c.if-at-to.false).rows.0 ∙ sym c.requires.ks_len.0
+pub returns-in_default : goal.returns-in_default
+returns-in_default c = turn_stopped _ _ _ _ (stood _ _ _ _ c.loop-at.invariant c.pass-to.ensures c.if-at-to.false) c.command_at.ensures c.requires.part_nonzero.0 _ c.in_default.is
 
-pub shape_of-kl-in-End : goal.shape_of-kl-in-End
-shape_of-kl-in-End c = (stood _ _ _ _ _ _ c.loop-last.invariant c.pass-to.ensures c.if-at-to.false).rows.1.0 ∙ sym c.requires.ks_len.1.0
+pub fault_of-requires-clause-op_bound : goal.fault_of-requires-clause-op_bound
+fault_of-requires-clause-op_bound c = byte_known _ _ _ _ (stood _ _ _ _ c.loop-at.invariant c.pass-to.ensures c.if-at-to.false) c.command_at.ensures c.in-Ok.is
 
-pub shape_of-km-in-End : goal.shape_of-km-in-End
-shape_of-km-in-End c = (stood _ _ _ _ _ _ c.loop-last.invariant c.pass-to.ensures c.if-at-to.false).rows.1.1 ∙ sym c.requires.ks_len.1.1
+pub returns-in_err-k : goal.returns-in_err-k
+returns-in_err-k c =
+    let m = mapped_err c.fault_of.result c.map_err.result _ c.map_err.ensures.cases _ c.in_err-k.was in
+    let q : c.in_err-k.field-0.0 ≡ record { fault = m.0; place = c.args.base + c.loop-at.at } = search (rules, m.1.1) in
+    let r : c.from_residual.result ≡ Err c.in_err-k.field-0.0 = search rules in
+    rw (r, q) (turn_refused _ _ _ _ (stood _ _ _ _ c.loop-at.invariant c.pass-to.ensures c.if-at-to.false) c.command_at.ensures c.in-Ok.is _ (sym c.fault_of.ensures.fault ∙ ap told m.1.0))
 
-pub returns-in-End : goal.returns-in-End
-returns-in-End c = turn_end _ _ _ _ _ _ (stood _ _ _ _ _ _ c.loop-last.invariant c.pass-to.ensures c.if-at-to.false) c.step.ensures c.requires.part_nonzero.0 c.in-End.is
+pub returns-then-c-eq-KEY : goal.returns-then-c-eq-KEY
+returns-then-c-eq-KEY c = key_refused _ _ _ _ (stood _ _ _ _ c.loop-at.invariant c.pass-to.ensures c.if-at-to.false) c.command_at.ensures c.in-Ok.is (sym c.fault_of.ensures.fault ∙ ap told (mapped_ok c.fault_of.result c.map_err.result _ c.map_err.ensures.cases _ c.in_ok-k.was)) c.if-c-eq-KEY.true (left_key _ _ _ _ _ _ c.pass-to.ensures c.if-at-to.false _ _ (sym c.in-Ok.is ∙ c.command_at.ensures) c.if-c-eq-KEY.true)
 
-pub shape_of-ks-in-Broken : goal.shape_of-ks-in-Broken
-shape_of-ks-in-Broken c = (stood _ _ _ _ _ _ c.loop-last.invariant c.pass-to.ensures c.if-at-to.false).rows.0 ∙ sym c.requires.ks_len.0
+pub push-requires : goal.push-requires
+push-requires c = (turn_slot _ _ _ _ (stood _ _ _ _ c.loop-at.invariant c.pass-to.ensures c.if-at-to.false) c.command_at.ensures c.in-Ok.is (clear_here _ _ _ _ (stood _ _ _ _ c.loop-at.invariant c.pass-to.ensures c.if-at-to.false) c.command_at.ensures c.in-Ok.is (sym c.fault_of.ensures.fault ∙ ap told (mapped_ok c.fault_of.result c.map_err.result _ c.map_err.ensures.cases _ c.in_ok-k.was)) c.if-c-eq-KEY.false) (subst (λ (r : Result ℕ Fault). IfOk r (λ k. slotted c.in-Ok.c ≡ Some k)) (mapped_ok c.fault_of.result c.map_err.result _ c.map_err.ensures.cases _ c.in_ok-k.was) c.fault_of.ensures.in_slot), slot_room _ _ _ _ (stood _ _ _ _ c.loop-at.invariant c.pass-to.ensures c.if-at-to.false) c.command_at.ensures c.in-Ok.is (clear_here _ _ _ _ (stood _ _ _ _ c.loop-at.invariant c.pass-to.ensures c.if-at-to.false) c.command_at.ensures c.in-Ok.is (sym c.fault_of.ensures.fault ∙ ap told (mapped_ok c.fault_of.result c.map_err.result _ c.map_err.ensures.cases _ c.in_ok-k.was)) c.if-c-eq-KEY.false) (subst (λ (r : Result ℕ Fault). IfOk r (λ k. slotted c.in-Ok.c ≡ Some k)) (mapped_ok c.fault_of.result c.map_err.result _ c.map_err.ensures.cases _ c.in_ok-k.was) c.fault_of.ensures.in_slot))
 
-pub shape_of-kl-in-Broken : goal.shape_of-kl-in-Broken
-shape_of-kl-in-Broken c = (stood _ _ _ _ _ _ c.loop-last.invariant c.pass-to.ensures c.if-at-to.false).rows.1.0 ∙ sym c.requires.ks_len.1.0
+pub loop-at-smaller : goal.loop-at-smaller
+loop-at-smaller c = turn_less _ _ _ _ (stood _ _ _ _ c.loop-at.invariant c.pass-to.ensures c.if-at-to.false) c.command_at.ensures c.in-Ok.is (clear_here _ _ _ _ (stood _ _ _ _ c.loop-at.invariant c.pass-to.ensures c.if-at-to.false) c.command_at.ensures c.in-Ok.is (sym c.fault_of.ensures.fault ∙ ap told (mapped_ok c.fault_of.result c.map_err.result _ c.map_err.ensures.cases _ c.in_ok-k.was)) c.if-c-eq-KEY.false)
 
-pub shape_of-km-in-Broken : goal.shape_of-km-in-Broken
-shape_of-km-in-Broken c = (stood _ _ _ _ _ _ c.loop-last.invariant c.pass-to.ensures c.if-at-to.false).rows.1.1 ∙ sym c.requires.ks_len.1.1
-
-pub returns-in-Broken : goal.returns-in-Broken
-returns-in-Broken c = turn_broken _ _ _ _ _ _ (stood _ _ _ _ _ _ c.loop-last.invariant c.pass-to.ensures c.if-at-to.false) c.step.ensures c.in-Broken.is
-
-pub slot_of-k-requires : goal.slot_of-k-requires
-slot_of-k-requires c = byte_known _ _ _ _ _ _ (stood _ _ _ _ _ _ c.loop-last.invariant c.pass-to.ensures c.if-at-to.false) c.step.ensures c.in-Command.is
-
-pub slice_bounds-fault_of-end : goal.slice_bounds-fault_of-end
-slice_bounds-fault_of-end c = sym (stood _ _ _ _ _ _ c.loop-last.invariant c.pass-to.ensures c.if-at-to.false).agrees.size
-
-pub fault_of-f-requires : goal.fault_of-f-requires
-fault_of-f-requires c = record { op_bound = (byte_known _ _ _ _ _ _ (stood _ _ _ _ _ _ c.loop-last.invariant c.pass-to.ensures c.if-at-to.false) c.step.ensures c.in-Command.is, (c.slot_of-k.ensures, (stood _ _ _ _ _ _ c.loop-last.invariant c.pass-to.ensures c.if-at-to.false).agrees.size)); text_value = c.requires.text_value; table = c.requires.table }
-
-pub shape_of-ks-then-f-ne0 : goal.shape_of-ks-then-f-ne0
-shape_of-ks-then-f-ne0 c = (stood _ _ _ _ _ _ c.loop-last.invariant c.pass-to.ensures c.if-at-to.false).rows.0 ∙ sym c.requires.ks_len.0
-
-pub shape_of-kl-then-f-ne0 : goal.shape_of-kl-then-f-ne0
-shape_of-kl-then-f-ne0 c = (stood _ _ _ _ _ _ c.loop-last.invariant c.pass-to.ensures c.if-at-to.false).rows.1.0 ∙ sym c.requires.ks_len.1.0
-
-pub shape_of-km-then-f-ne0 : goal.shape_of-km-then-f-ne0
-shape_of-km-then-f-ne0 c = (stood _ _ _ _ _ _ c.loop-last.invariant c.pass-to.ensures c.if-at-to.false).rows.1.1 ∙ sym c.requires.ks_len.1.1
-
-pub returns-then-f-ne0 : goal.returns-then-f-ne0
-returns-then-f-ne0 c = turn_refused _ _ _ _ _ _ (stood _ _ _ _ _ _ c.loop-last.invariant c.pass-to.ensures c.if-at-to.false) c.step.ensures c.in-Command.is c.fault_of-f.ensures c.if-f-ne0.true
-
-pub shape_of-ks-then-op-eq-KEY : goal.shape_of-ks-then-op-eq-KEY
-shape_of-ks-then-op-eq-KEY c = (stood _ _ _ _ _ _ c.loop-last.invariant c.pass-to.ensures c.if-at-to.false).rows.0 ∙ sym c.requires.ks_len.0
-
-pub shape_of-kl-then-op-eq-KEY : goal.shape_of-kl-then-op-eq-KEY
-shape_of-kl-then-op-eq-KEY c = (stood _ _ _ _ _ _ c.loop-last.invariant c.pass-to.ensures c.if-at-to.false).rows.1.0 ∙ sym c.requires.ks_len.1.0
-
-pub shape_of-km-then-op-eq-KEY : goal.shape_of-km-then-op-eq-KEY
-shape_of-km-then-op-eq-KEY c = (stood _ _ _ _ _ _ c.loop-last.invariant c.pass-to.ensures c.if-at-to.false).rows.1.1 ∙ sym c.requires.ks_len.1.1
-
-pub returns-then-op-eq-KEY : goal.returns-then-op-eq-KEY
-returns-then-op-eq-KEY c = key_refused _ _ _ _ _ _ (stood _ _ _ _ _ _ c.loop-last.invariant c.pass-to.ensures c.if-at-to.false) c.step.ensures c.in-Command.is c.fault_of-f.ensures c.if-f-ne0.false c.if-op-eq-KEY.true (left_key _ _ _ _ _ _ _ _ c.pass-to.ensures c.if-at-to.false _ _ (sym c.in-Command.is ∙ c.step.ensures) c.if-op-eq-KEY.true)
-
-pub slice_bounds-push-end : goal.slice_bounds-push-end
-slice_bounds-push-end c = sym (stood _ _ _ _ _ _ c.loop-last.invariant c.pass-to.ensures c.if-at-to.false).agrees.size
-
-pub push-last-requires : goal.push-last-requires
-push-last-requires c = (slot_small _ _ _ _ _ _ (stood _ _ _ _ _ _ c.loop-last.invariant c.pass-to.ensures c.if-at-to.false) c.step.ensures c.in-Command.is (clear_here _ _ _ _ _ _ (stood _ _ _ _ _ _ c.loop-last.invariant c.pass-to.ensures c.if-at-to.false) c.step.ensures c.in-Command.is c.fault_of-f.ensures c.if-f-ne0.false c.if-op-eq-KEY.false) refl c.slot_of-k.ensures, (slot_room _ _ _ _ _ _ (stood _ _ _ _ _ _ c.loop-last.invariant c.pass-to.ensures c.if-at-to.false) c.step.ensures c.in-Command.is (clear_here _ _ _ _ _ _ (stood _ _ _ _ _ _ c.loop-last.invariant c.pass-to.ensures c.if-at-to.false) c.step.ensures c.in-Command.is c.fault_of-f.ensures c.if-f-ne0.false c.if-op-eq-KEY.false) refl c.slot_of-k.ensures, (stood _ _ _ _ _ _ c.loop-last.invariant c.pass-to.ensures c.if-at-to.false).agrees.size))
-
-pub loop-last-smaller : goal.loop-last-smaller
-loop-last-smaller c = turn_less _ _ _ _ _ _ (stood _ _ _ _ _ _ c.loop-last.invariant c.pass-to.ensures c.if-at-to.false) c.step.ensures c.in-Command.is (clear_here _ _ _ _ _ _ (stood _ _ _ _ _ _ c.loop-last.invariant c.pass-to.ensures c.if-at-to.false) c.step.ensures c.in-Command.is c.fault_of-f.ensures c.if-f-ne0.false c.if-op-eq-KEY.false) refl
-
-pub loop-last-preserved : goal.loop-last-preserved
-loop-last-preserved c = looked_on _ _ _ _ _ _ (stood _ _ _ _ _ _ c.loop-last.invariant c.pass-to.ensures c.if-at-to.false) c.step.ensures c.in-Command.is c.fault_of-f.ensures c.if-f-ne0.false c.if-op-eq-KEY.false c.slot_of-k.ensures (no_end _ _ _ _ _ _ (stood _ _ _ _ _ _ c.loop-last.invariant c.pass-to.ensures c.if-at-to.false) _ c.is_ended.ensures c.if-is_ended.false c.step.ensures c.in-Command.is c.fault_of-f.ensures c.if-f-ne0.false) _ c.push-last.ensures.counts_after _ c.push-last.ensures.value
+pub loop-at-preserved : goal.loop-at-preserved
+loop-at-preserved c = looked_on _ _ _ _ (stood _ _ _ _ c.loop-at.invariant c.pass-to.ensures c.if-at-to.false) c.command_at.ensures c.in-Ok.is (sym c.fault_of.ensures.fault ∙ ap told (mapped_ok c.fault_of.result c.map_err.result _ c.map_err.ensures.cases _ c.in_ok-k.was)) c.if-c-eq-KEY.false (subst (λ (r : Result ℕ Fault). IfOk r (λ k. slotted c.in-Ok.c ≡ Some k)) (mapped_ok c.fault_of.result c.map_err.result _ c.map_err.ensures.cases _ c.in_ok-k.was) c.fault_of.ensures.in_slot) (no_end _ _ _ _ (stood _ _ _ _ c.loop-at.invariant c.pass-to.ensures c.if-at-to.false) _ c.is_ended.ensures c.if-is_ended.false c.command_at.ensures c.in-Ok.is (sym c.fault_of.ensures.fault ∙ ap told (mapped_ok c.fault_of.result c.map_err.result _ c.map_err.ensures.cases _ c.in_ok-k.was))) _ c.push.ensures.counts_after _ c.push.ensures.last_after

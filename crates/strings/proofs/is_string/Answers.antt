@@ -1,8 +1,12 @@
-use Rattle.strings.proofs.Rules.{string_long, string_on}
+use Rattle.std.proofs.Common.{arith}
+use Rattle.std.proofs.lemmas.Bool.Decides.{nat_tests}
+use Rattle.strings.specs.Strings.{string_rule}
 use Rattle.strings.proofs.is_string.Goals as goal
 
-pub returns-then-s-gt-LONGEST : goal.returns-then-s-gt-LONGEST
-returns-then-s-gt-LONGEST c = string_long _ c.if-s-gt-LONGEST.true
+pub returns-then-s-le-LONGEST : goal.returns-then-s-le-LONGEST
+unfolding string_rule
+returns-then-s-le-LONGEST c = grind (arith, nat_tests)
 
-pub returns : goal.returns
-returns c = string_on c.args.s.now c.if-s-gt-LONGEST.false _ c.is_plain.ensures
+pub returns-else-s-le-LONGEST : goal.returns-else-s-le-LONGEST
+unfolding string_rule
+returns-else-s-le-LONGEST c = grind (arith, nat_tests)

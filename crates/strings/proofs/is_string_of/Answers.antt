@@ -3,6 +3,3 @@ use Rattle.strings.proofs.is_string_of.Goals as goal
 
 pub returns-then-tame : goal.returns-then-tame
 returns-then-tame c = tame_string _ (c.requires c.if-tame.true)
-
-pub returns : goal.returns
-returns c = c.is_string.ensures
