@@ -2,7 +2,7 @@
 use mathlib.Core.Path.{◌≡◌, refl, sym, ap, ◌∙◌}
 use mathlib.Core.List.{List, [], ◌∷◌}
 use mathlib.Core.Bool.{Bool, true, false, not, ◌&&◌, cond, true≢false}
-use mathlib.Core.Option.{some, none}
+use Rattle.std.specs.Prelude.{Option, Some, None, is_some}
 use Prim.Native.Nat.{ℕ, ◌<◌, ◌≤◌}
 use native.Mathlib.Omega.{arith}
 use lib.Dec.{eqb}
@@ -10,17 +10,14 @@ use lib.ListN.{length, get_or, drop}
 use borrow.Author.Tests.{eq-eqb, ne_eqb, eqb-true, eqb-false, not-true}
 use Rattle.text.specs.Bytes.{Text, slash, dot}
 use Rattle.text.specs.Text as text
-use Rattle.text.specs.declared.Found.{Found}
-use Rattle.text.specs.declared.Found.TheVariants.{At, Nothing}
 use Rattle.text.proofs.Picks.{by_test}
 use Rattle.components.specs.Components.{on_first, split, piece_of}
 use Rattle.components.specs.declared.Piece.TheVariants.{Name}
 use Rattle.components.proofs.Pieces.{piece_name, pieces_one}
 use Rattle.join.specs.Join.{push_of, step_by, step_of, walk_of, normalize_with}
 use Rattle.book.specs.Find.{find, locate}
-use Rattle.records.specs.Paths.{found_number}
 use Rattle.records.proofs.Paths.{locate_own}
-use Rattle.entries.specs.Codes.{is_nothing, is_beside}
+use Rattle.entries.specs.Entries.{is_nothing, is_beside}
 
 -- the tests in their order
 
@@ -53,11 +50,21 @@ module _ (s : Text) (h : 3 ≤ length s) where
       unfolding is_beside
       beside_dot = by_three (λ s. get_or s 0 0 ≡ dot → get_or s 1 0 ≡ slash → get_or s 2 0 ≡ dot → false ≡ is_beside s) (λ a b c t e f g. rw (eq-eqb a dot e, eq-eqb b slash f, eq-eqb c dot g) refl) s h d l
 
-      pub beside_name : (get_or s 2 0 ≡ dot → ⊥) → (t : Text) → t ≡ drop 2 s → (o : Found) → o ≡ text.find slash t → is_nothing o ≡ is_beside s
+      pub beside_name : (get_or s 2 0 ≡ dot → ⊥) → (t : Text) → t ≡ drop 2 s → (o : Option ℕ) → o ≡ text.find slash t → (b : Bool) → is_some o ≡ not b → b ≡ is_beside s
       unfolding is_beside
-      beside_name n t e o i =
-          ap is_nothing (i ∙ ap (text.find slash) e)
+      beside_name n t q o i b j =
+          none b o j
+          ∙ ap is_nothing (i ∙ ap (text.find slash) q)
           ∙ by_three (λ s. get_or s 0 0 ≡ dot → get_or s 1 0 ≡ slash → (get_or s 2 0 ≡ dot → ⊥) → is_nothing (text.find slash (drop 2 s)) ≡ is_beside s) (λ a b c t e f g. rw (eq-eqb a dot e, eq-eqb b slash f, ne_eqb c dot g) refl) s h d l n
+        where
+          none : (b : Bool) (o : Option ℕ) → is_some o ≡ not b → b ≡ is_nothing o
+          none true None j = refl
+          none true (Some x) j = absurd (true≢false j)
+          none false None j = absurd (true≢false (sym j))
+          none false (Some x) j = refl
+
+-- whichever fails, from its length and its bytes
+pub ruleset besides = (beside_short, beside_bare, beside_other, beside_dot)
 
 -- what it means
 
@@ -69,11 +76,11 @@ second : (a b : Bool) → (a && b) ≡ true → b ≡ true
 second true b e = e
 second false b e = absurd (true≢false (sym e))
 
-nothing : (o : Found) → is_nothing o ≡ true → Nothing ≡ o
-nothing (At i) e = absurd (true≢false (sym e))
-nothing Nothing e = refl
+nothing : (o : Option ℕ) → is_nothing o ≡ true → None ≡ o
+nothing (Some i) e = absurd (true≢false (sym e))
+nothing None e = refl
 
-beside_means : (d t : Text) → Nothing ≡ text.find slash t → Name ≡ piece_of t → normalize_with d (dot ∷ slash ∷ t) ≡ push_of d t
+beside_means : (d t : Text) → None ≡ text.find slash t → Name ≡ piece_of t → normalize_with d (dot ∷ slash ∷ t) ≡ push_of d t
 unfolding normalize_with split on_first walk_of step_of step_by piece_of
 beside_means d t n u = rw (pieces_one t n, ← u) refl
 
@@ -93,14 +100,14 @@ beside_path d (x ∷ y ∷ z ∷ t) b =
 -- the record that is found so
 
 module _ (paths : List Text) (dir s : Text) where
-  pub besides_none : (b : Bool) → b ≡ is_beside s → b ≡ false → none ≡ cond (is_beside s) (find (push_of dir (drop 2 s)) paths) none
+  pub besides_none : (b : Bool) → b ≡ is_beside s → b ≡ false → None ≡ cond (is_beside s) (find (push_of dir (drop 2 s)) paths) None
   besides_none b e f = rw (← e, f) refl
 
-  pub besides_named : (b : Bool) → b ≡ is_beside s → b ≡ true → (name : Text) → name ≡ drop 2 s → (r : Found) → found_number r ≡ find (push_of dir name) paths → found_number r ≡ cond (is_beside s) (find (push_of dir (drop 2 s)) paths) none
+  pub besides_named : (b : Bool) → b ≡ is_beside s → b ≡ true → (name : Text) → name ≡ drop 2 s → (r : Option ℕ) → r ≡ find (push_of dir name) paths → r ≡ cond (is_beside s) (find (push_of dir (drop 2 s)) paths) None
   besides_named b e y name i r f = f ∙ ap (λ (t : Text). find (push_of dir t) paths) i ∙ sym (rw (← e, y) refl)
 
-  pub meant_beside : (r : Found) → found_number r ≡ cond (is_beside s) (find (push_of dir (drop 2 s)) paths) none → (i : ℕ) → r ≡ At i → some i ≡ locate paths (normalize_with dir s)
+  pub meant_beside : (r : Option ℕ) → r ≡ cond (is_beside s) (find (push_of dir (drop 2 s)) paths) None → (i : ℕ) → r ≡ Some i → Some i ≡ locate paths (normalize_with dir s)
   meant_beside r e i y =
       by_test (is_beside s)
       (λ t. locate_own paths (normalize_with dir s) r (e ∙ (rw t (ap (λ (p : Text). find p paths) (sym (beside_path dir s t))))) i y)
-      (λ f. let z : some i ≡ none = sym (ap found_number y) ∙ e ∙ (rw f refl) in let w : ◌≡◌ {A = ℕ} 0 1 = cc in absurd (omega (arith, w)))
+      (λ f. let z : Some i ≡ None = sym y ∙ e ∙ (rw f refl) in let w : ◌≡◌ {A = ℕ} 0 1 = cc in absurd (omega (arith, w)))

@@ -1,30 +1,34 @@
--- What the tables of an accepted book say of a record: its directory, its entries and its references. Assumes nothing.
-use mathlib.Core.Path.{◌≡◌, refl, sym, ap, ap₂, ◌∙◌, fun_ext}
+-- What an accepted book says of a record: its directory, its entries and its references. Assumes nothing.
+use mathlib.Core.Path.{◌≡◌, refl, sym, ap, ap₂, subst, ◌∙◌, fun_ext}
 use mathlib.Core.List.{List, [], ◌∷◌, map}
-use mathlib.Core.Option.{some}
 use Prim.Native.Nat.{ℕ, ◌<◌, ◌≤◌}
 use native.Mathlib.Omega.{arith}
-use lib.ListN.{length, get_or, take, drop, get_or-map}
-use borrow.Author.Tests.{ne_eqb}
+use lib.ListN.{length, get_or, take, drop, get_or-map, length-map}
 use Rattle.text.specs.Bytes.{Text}
 use Rattle.ends.specs.Ends.{parent_of}
 use Rattle.join.specs.Join.{normalize_with}
-use Rattle.ends.proofs.Parents.{parent_le}
-use Rattle.book.specs.Command.{extends, reference}
-use Rattle.book.specs.Record.{strings, record_path_of}
+use Rattle.book.specs.Command.{begin, extends, reference, target}
+use Rattle.book.specs.declared.Cmd.{Cmd}
+use Rattle.book.specs.Record.{is, only, first_of, single, strings, record_path_of}
+use Rattle.book.specs.Rules.{text_of, limits}
+use Rattle.record.proofs.Good.{good_short}
+use Rattle.record.specs.Lists.{strings_left}
+use Rattle.record.specs.declared.lists.Strings.{Strings}
+use Rattle.record.specs.declared.place.Record.{Record}
 use Rattle.book.specs.Index as index
 use Rattle.book.specs.Find.{locate}
-use Rattle.records.specs.Paths.{path_table}
+use Rattle.book.specs.Sound.{All, nil, cons, Good, Sound}
+use Rattle.records.specs.Tables.{paths_in}
 use Rattle.records.proofs.Paths.{path_row}
+use Rattle.ends.proofs.Parents.{parent_le}
+use Rattle.text.proofs.Picks.{by_test}
 use Rattle.tsconfig.specs.Parsed.{Parsed, parsed, parse}
-use Rattle.tsconfig_resolver.specs.Line.{Entry}
-use Rattle.tsconfig_resolver.specs.Load.{unread}
-use Rattle.tsconfig_resolver.specs.Find.{blank, record_at, path_at, paths_of, meant, entry, seen}
-use Rattle.rows.specs.Rows.{config_of, number_of, Row}
-use Rattle.rows.specs.Records.{records_of}
-use Rattle.entries.specs.Codes.{entry_at, refusal_of, Codes, EntriesPre}
-use Rattle.entries.specs.Opens.{Tables, Ready}
-use Rattle.entries.proofs.Entries.{coded, path_short}
+use Rattle.tsconfig_resolver.specs.Line as line
+use Rattle.tsconfig_resolver.specs.Find.{blank, record_at, path_at, paths_of, meant, entry}
+use Rattle.rows.specs.declared.CheckedBook.{CheckedBook}
+use Rattle.rows.specs.Checked.{records_in}
+use Rattle.entries.specs.declared.lists.Entries.{Entries}
+use Rattle.entries.specs.Entries.{entries_of, entry_at, Inside, EntriesOf}
 
 -- an entry by the paths of the records and the directory of its record
 pub entry_is : (rs : List Parsed) (c : ℕ) (s : Text) → entry_at (paths_of rs) (parent_of (path_at rs c)) s ≡ entry rs c s
@@ -32,85 +36,81 @@ unfolding entry_at entry meant
 entry_is rs c [] = refl
 entry_is rs c (x ∷ s) = refl
 
-module _ (commands text : Text) (begins starts lens : List ℕ) (n : ℕ) (b : Tables commands text begins starts lens n) where
-  pub few_records : n ≤ 64
-  few_records = omega (arith, b.paths.size, b.records.few)
+-- a record's path is short
+path_short : (text : Text) (r : List Cmd) → All (Good text) r → length (record_path_of text r) ≤ 512
+unfolding record_path_of single first_of only
+path_short text [] nil = omega arith
+path_short text (c ∷ r) (cons g h) = by_test (is begin c) (λ t. rw t (good_short text c (rw (g.range, g.string) refl))) (λ f. rw f (path_short text r h))
+
+module _ (b : CheckedBook) where
+  pub few_records : b.paths.count ≤ 64
+  few_records = omega (arith, b.listed.size, b.records.few)
 
   -- the record c, which is there
-  module _ (c : ℕ) (inside : c < n) where
-    pub inside_records : c < length (records_of commands text)
-    inside_records = omega (arith, inside, b.paths.size)
+  module _ (c : ℕ) (inside : c < b.paths.count) where
+    pub inside_records : c < length (records_in b)
+    inside_records = omega (arith, inside, b.listed.size)
 
-    pub begin_there : c < length begins
-    begin_there = omega (arith, inside, b.paths.size, b.records.there)
+    pub begin_there : c < length b.begins.now
+    begin_there = omega (arith, inside, b.listed.size, b.records.there)
 
-    path_is : path_at (records_of commands text) c ≡ record_path_of text (index.record_at commands (get_or begins c 0))
+    pub record_sound : Sound b.paths.text.now (index.record_at b.commands.now (get_or b.begins.now c 0))
+    record_sound = b.records.sound c inside_records
+
+    path_is : path_at (records_in b) c ≡ record_path_of b.paths.text.now (index.record_at b.commands.now (get_or b.begins.now c 0))
     unfolding parsed parse
     path_is = ap (λ (r : Parsed). r.path) (b.records.reads c inside_records)
 
-    extended_is : (record_at (records_of commands text) c).extended ≡ strings text extends (index.record_at commands (get_or begins c 0))
+    extended_is : (record_at (records_in b) c).extended ≡ strings b.paths.text.now extends (index.record_at b.commands.now (get_or b.begins.now c 0))
     unfolding parsed parse
     extended_is = ap (λ (r : Parsed). r.extended) (b.records.reads c inside_records)
 
-    pub references_are : (record_at (records_of commands text) c).references ≡ strings text reference (index.record_at commands (get_or begins c 0))
+    pub references_are : (record_at (records_in b) c).references ≡ strings b.paths.text.now reference (index.record_at b.commands.now (get_or b.begins.now c 0))
     unfolding parsed parse
     references_are = ap (λ (r : Parsed). r.references) (b.records.reads c inside_records)
 
     -- the row of the table of paths
-    row_is : take (get_or lens c 0) (drop (get_or starts c 0) text) ≡ path_at (records_of commands text) c
+    pub row_is : take (get_or b.paths.lens.now c 0) (drop (get_or b.paths.starts.now c 0) b.paths.text.now) ≡ path_at (records_in b) c
     row_is =
-        sym (path_row text starts lens n c inside)
-        ∙ ap (λ (l : List Text). get_or l c []) b.paths.paths
-        ∙ get_or-map (λ (r : Parsed). r.path) (records_of commands text) c blank
+        sym (path_row b.paths.text.now b.paths.starts.now b.paths.lens.now b.paths.count c inside)
+        ∙ ap (λ (l : List Text). get_or l c []) b.listed.paths
+        ∙ get_or-map (λ (r : Parsed). r.path) (records_in b) c blank
 
-    module _ (dir : Text) (e : dir ≡ parent_of (take (get_or lens c 0) (drop (get_or starts c 0) text))) where
-      pub dir_is : dir ≡ parent_of (path_at (records_of commands text) c)
-      dir_is = e ∙ ap parent_of row_is
+    pub dir_short : length (parent_of (path_at (records_in b) c)) ≤ 512
+    dir_short = omega (arith, parent_le (path_at (records_in b) c), ap length path_is, path_short b.paths.text.now (index.record_at b.commands.now (get_or b.begins.now c 0)) record_sound.each)
 
-      pub dir_short : length dir ≤ 512
-      dir_short =
-          omega (
-            arith,
-            ap length dir_is,
-            parent_le (path_at (records_of commands text) c),
-            ap length path_is,
-            path_short text (index.record_at commands (get_or begins c 0)) (b.records.sound c inside_records).each,
-          )
-
-      pub entries_pre : (codes : List ℕ) → length codes ≡ 8 → EntriesPre commands text starts lens n (get_or begins c 0) dir codes
-      entries_pre codes l = record {
-        few = few_records;
-        starts_there = b.paths.starts_there;
-        lens_there = b.paths.lens_there;
-        sound = b.records.sound c inside_records;
-        short = dir_short;
-        long = l;
-      }
-
+    module _ (dir : Text) (e : dir ≡ parent_of (path_at (records_in b) c)) where
       -- what a path from the record's directory means
-      pub meant_is : (s : Text) → locate (path_table text starts lens n) (normalize_with dir s) ≡ meant (records_of commands text) c s
+      pub meant_is : (s : Text) → locate (paths_in b.paths) (normalize_with dir s) ≡ meant (records_in b) c s
       unfolding meant
-      meant_is s = ap₂ (λ (l : List Text) (d : Text). locate l (normalize_with d s)) b.paths.paths dir_is
+      meant_is s = ap₂ (λ (l : List Text) (d : Text). locate l (normalize_with d s)) b.listed.paths e
 
-      entries_are : map (entry_at (path_table text starts lens n) dir) (strings text extends (index.record_at commands (get_or begins c 0))) ≡ (seen (records_of commands text)).entries c
-      entries_are =
-          ap₂ (λ (l : List Text) (d : Text). map (entry_at l d) (strings text extends (index.record_at commands (get_or begins c 0)))) b.paths.paths dir_is
-          ∙ ap₂ (λ (g : Text → Entry) (l : List Text). map g l) (fun_ext (entry_is (records_of commands text) c)) (sym extended_is)
+      -- the entries that were read
+      pub entries_read : (es : Entries) → entries_of (take es.count es.all) ≡ map (entry_at (paths_in b.paths) dir) (strings b.paths.text.now extends (index.record_at b.commands.now (get_or b.begins.now c 0))) → All (Inside b.paths.count) (take es.count es.all) → EntriesOf (records_in b) c es
+      entries_read es r a =
+          record {
+            entries =
+                r
+                ∙ ap₂ (λ (l : List Text) (d : Text). map (entry_at l d) (strings b.paths.text.now extends (index.record_at b.commands.now (get_or b.begins.now c 0)))) b.listed.paths e
+                ∙ ap₂ (λ (g : Text → line.Entry) (l : List Text). map g l) (fun_ext (entry_is (records_in b) c)) (sym extended_is);
+            inside = subst (λ (n : ℕ). All (Inside n) (take es.count es.all)) (sym b.listed.size) a;
+          }
 
-      module _ (codes : List ℕ) (k : ℕ) (p : Codes commands text (path_table text starts lens n) n (get_or begins c 0) dir codes k) (x : ℕ) (r : refusal_of x ≡ unread (coded n codes k)) where
-        coded_are : coded n codes k ≡ (seen (records_of commands text)).entries c
-        coded_are = p.entries ∙ entries_are
+-- the record as the code reads it
+module _ (b : CheckedBook) (c : ℕ) (inside : c < b.paths.count) (r : Record) (at : r.at ≡ get_or b.begins.now c 0) (commands : r.commands.now ≡ b.commands.now) (text : r.text.now ≡ b.paths.text.now) where
+  -- its strings with a byte of which there are few
+  module _ (it : Strings) (same : it.record ≡ r) where
+    pub strings_are : (op : ℕ) → it.op ≡ op → strings_left it ≡ strings b.paths.text.now op (index.record_at b.commands.now (get_or b.begins.now c 0))
+    strings_are op e = rw (e, same, text, commands, at) refl
 
-        pub open_refused : (x ≡ 0 → ⊥) → unread ((seen (records_of commands text)).entries c) ≡ some x
-        open_refused h = ap unread (sym coded_are) ∙ sym r ∙ (rw (ne_eqb x 0 h) refl)
+-- there are no more of them than may be
+module _ (text : Text) (r : List Cmd) (sound : Sound text r) where
+  few_of : (op : ℕ) → (get_or limits op 0 ≡ 0 → ⊥) → (op ≡ target → ⊥) → length (strings text op r) ≤ get_or limits op 0
+  unfolding strings
+  few_of op n t = let h = sound.few op n t in omega (arith, length-map (only (is op) r) (text_of text), h)
 
-        pub open_ready : x ≡ 0 → (row : List ℕ) → config_of (records_of commands text) row ≡ (seen (records_of commands text)).own c → Row (records_of commands text) row → number_of row ≡ c → Ready (records_of commands text) n c codes row k
-        open_ready z row f g o = record {
-          read = ap unread (sym coded_are) ∙ sym r ∙ (rw z refl);
-          entries = coded_are;
-          few = p.few;
-          long = p.long;
-          config = f;
-          row = g;
-          own = o;
-        }
+  pub few_extends : length (strings text extends r) ≤ 8
+  few_extends = few_of extends (λ e. absurd (omega (arith, e))) (λ e. absurd (omega (arith, e)))
+
+  pub few_references : length (strings text reference r) ≤ 16
+  few_references = few_of reference (λ e. absurd (omega (arith, e))) (λ e. absurd (omega (arith, e)))

@@ -1,4 +1,4 @@
 -- Laws of the definitions of specs/.
-pub mod Entries
+pub mod Going
 pub mod Dirs
 pub mod Beside

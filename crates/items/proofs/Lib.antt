@@ -1,2 +1,2 @@
 -- Laws of the definitions of specs/.
-pub mod Items
+pub mod Reading

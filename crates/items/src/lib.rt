@@ -1,88 +1,102 @@
 // Reading a checked book: the items of a record one after the other.
 #![tactic(auto)]
 
-ghost use Rattle.std.specs.Prelude.{◌≡◌, drop};
+ghost use Rattle.std.specs.Prelude.{◌≡◌, ◌-◌, length, drop};
+ghost use Rattle.std.specs.Iterator.{at_most};
 ghost use Rattle.text.specs.Text.{some_of};
 ghost use Rattle.book.specs.Command.{decode};
 ghost use Rattle.book.specs.Record.{is};
 ghost use Rattle.book.specs.Index.{record_at};
 ghost use Rattle.items.specs.Items.{item_of, option_item, target_item};
+ghost use Rattle.items.specs.Runs.{NextItem, NextTarget};
 
-use book::{Cmd, Cursor, END, Step, TARGET};
+use book::{Cmd, END, TARGET, command_at};
 
-// A command that was looked for, and the offset after it.
-#[derive(Clone, Copy)]
-pub enum Item {
-    At(Cmd, usize),
-    Missing,
-}
-
-// The first command with the byte op, from the offset on and before the record's END.
-pub fn next_item(commands: &[u8], at: usize, op: u8) -> Item
-    ensures { result ≡ item_of op (decode 0 at (drop at commands.now)) }
+// The first command with the byte op, from the offset on and before the record's END, and the offset after it.
+pub fn next_item(commands: &[u8], from: usize, op: u8) -> Option<(Cmd, usize)>
+    ensures { result ≡ item_of op (decode 0 from (drop from commands.now)) }
 {
-    let mut cursor = Cursor { at: at };
-    loop {
-        match cursor.step(commands) {
-            Step::End => return Item::Missing,
-            Step::Broken => return Item::Missing,
-            Step::Command(c, next) => {
-                let byte = c.op;
-                if byte == END {
-                    return Item::Missing;
-                }
-                if byte == op {
-                    return Item::At(c, next.at);
-                }
-                cursor = next;
-            }
+    let mut at = from;
+    while let Ok((c, next)) = command_at(commands, at) {
+        if c.op == END {
+            return None;
         }
+        if c.op == op {
+            return Some((c, next));
+        }
+        at = next;
     }
+    None
 }
 
-// The first command with the byte op and the id, from the offset on and before the record's END.
-pub fn next_option(commands: &[u8], at: usize, op: u8, id: u8) -> Item
-    ensures { result ≡ option_item op id (decode 0 at (drop at commands.now)) }
-{
-    let mut to = at;
-    loop {
-        match next_item(commands, to, op) {
-            Item::Missing => return Item::Missing,
-            Item::At(c, next) => {
-                let own = c.id;
-                if own == id {
-                    return Item::At(c, next);
-                }
-                to = next;
-            }
-        }
-    }
-}
-
-// The command at the offset, if it is a target.
-pub fn next_target(commands: &[u8], at: usize) -> Item
+// The command at the offset, if it is a target, and the offset after it.
+pub fn next_target(commands: &[u8], at: usize) -> Option<(Cmd, usize)>
     ensures { result ≡ target_item (decode 0 at (drop at commands.now)) }
 {
-    let cursor = Cursor { at: at };
-    match cursor.step(commands) {
-        Step::End => return Item::Missing,
-        Step::Broken => return Item::Missing,
-        Step::Command(c, next) => {
-            let byte = c.op;
-            if byte != TARGET {
-                return Item::Missing;
-            }
-            return Item::At(c, next.at);
+    match command_at(commands, at) {
+        Ok((c, next)) if c.op == TARGET => Some((c, next)),
+        _ => None,
+    }
+}
+
+// The commands with one byte, from an offset on and before the record's END, each with the offset after it.
+#[derive(Clone, Copy)]
+pub struct Items<'a> {
+    pub commands: &'a [u8],
+    pub at: usize,
+    pub op: u8,
+}
+
+impl<'a> Iterator for Items<'a> {
+    type Item = (Cmd, usize);
+
+    ghost next_gives = { NextItem };
+
+    ghost remaining = { λ s. at_most (length s.commands.now - s.at) };
+
+    fn next(&mut self) -> Option<(Cmd, usize)> {
+        let item = next_item(self.commands, self.at, self.op)?;
+        self.at = item.1;
+        Some(item)
+    }
+}
+
+// The targets that stand at an offset, each with the offset after it.
+#[derive(Clone, Copy)]
+pub struct Targets<'a> {
+    pub commands: &'a [u8],
+    pub at: usize,
+}
+
+impl<'a> Iterator for Targets<'a> {
+    type Item = (Cmd, usize);
+
+    ghost next_gives = { NextTarget };
+
+    ghost remaining = { λ s. at_most (length s.commands.now - s.at) };
+
+    fn next(&mut self) -> Option<(Cmd, usize)> {
+        let target = next_target(self.commands, self.at)?;
+        self.at = target.1;
+        Some(target)
+    }
+}
+
+// The first command with the byte op and the id, from the offset on and before the record's END, and the offset after it.
+pub fn next_option(commands: &[u8], at: usize, op: u8, id: u8) -> Option<(Cmd, usize)>
+    ensures { result ≡ option_item op id (decode 0 at (drop at commands.now)) }
+{
+    for (c, next) in (Items { commands, at, op }) {
+        if c.id == id {
+            return Some((c, next));
         }
     }
+    None
 }
 
 // Whether a command with the byte op stands from the offset on and before the record's END.
 pub fn is_named(commands: &[u8], at: usize, op: u8) -> bool
     ensures { result ≡ some_of (is op) (record_at commands.now at) }
 {
-    match next_item(commands, at, op) {
-        Item::Missing => return false,
-        Item::At(_, _) => return true,
-    }
+    next_item(commands, at, op).is_some()
 }

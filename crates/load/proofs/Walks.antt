@@ -1,35 +1,43 @@
 -- The load and the walk over the parents, branch by branch. Assumes nothing.
 use mathlib.Core.Path.{◌≡◌, refl, sym, ap, ap₂, subst, ◌∙◌, fun_ext}
-use mathlib.Core.List.{List, [], ◌∷◌, map, reverse, reverse-append, map-append}
+use mathlib.Core.List.{List, [], ◌∷◌, ◌++◌, reverse, reverse-append, map-append}
 use mathlib.Core.Bool.{Bool, true, false, cond, not, ◌||◌, ◌&&◌}
-use mathlib.Core.Option.{Option, some, none}
-use Prim.Native.Nat.{ℕ, zero, suc, ◌+◌, ◌-◌, ◌*◌, ◌<◌, ◌≤◌}
+use Rattle.std.specs.Prelude.{Option, Some, None, is_some, option_map, Result, Ok, Err}
+use Prim.Native.Nat.{ℕ, suc, ◌+◌, ◌*◌, ◌<◌, ◌≤◌}
 use native.Mathlib.Omega.{arith}
 use native.Mathlib.Numerals.{add-one}
 use lib.Dec.{eqb}
-use lib.ListN.{length, get_or, set, take}
-use lib.Seq.{get_or-set_same, get_or-set_other, take-suc, take-take}
-use borrow.Author.Tests.{eqb-true, eqb-false, eq-eqb, ne_eqb, lt-ltb, le-ltb}
+use lib.ListN.{length, get_or, set, take, length-take}
+use lib.Seq.{get_or-set_same, get_or-set_other, take-suc, take_all}
+use borrow.Author.Tests.{eqb-true, eqb-false}
 use Rattle.text.proofs.Picks.{by_test}
 use Rattle.book.specs.Answer.{refused, ◌>>=◌, unless}
+use Rattle.book.specs.Refusals.{number_of, refusal}
+use Rattle.book.specs.declared.Refusal.{Refusal}
+use Rattle.book.specs.Sound.{All}
 use Rattle.tsconfig.specs.Config.{merge}
 use Rattle.tsconfig.specs.Parsed.{Parsed}
-use Rattle.tsconfig_resolver.specs.Line.{Entry, empty, bare, missing, leads, tally}
+use Rattle.tsconfig_resolver.specs.Line as line
+use Rattle.tsconfig_resolver.specs.Line.{tally}
 use Rattle.tsconfig_resolver.specs.Load.{done, recall, add, put, counted, unread, fresh, parent, walk, load}
 use Rattle.tsconfig_resolver.specs.Find.{seen}
 use Rattle.tsconfig_resolver.specs.Project.{Merged, Store}
 use Rattle.tsconfig_resolver.proofs.Tally.{tally_ext, tally_add}
 use Rattle.tsconfig_resolver.proofs.Fuel.{load_law, free_cons}
-use Rattle.rows.specs.Rows.{absent, number_of, config_of, Row, row_at}
-use Rattle.rows.proofs.Tables.{row_place}
-use Rattle.entries.specs.Codes.{entry_of}
-use Rattle.entries.specs.Opens.{Ready, OpenedAs, Opens}
-use Rattle.load.specs.Loads.{on_of, holder, unloaded, state_of, pending, Table, Gives, Went, ToldAs, Tells, walks}
-use Rattle.load.specs.declared.Told.{Told}
-use Rattle.load.specs.declared.Told.TheVariants.{Refused, Done}
-use Rattle.entries.specs.declared.Opening.{Opening}
-use Rattle.entries.specs.declared.Opening.TheVariants as opening
-use Rattle.entries.proofs.Entries.{coded}
+use Rattle.rows.specs.Rows.{number_of as row_number, config_of, Row}
+use Rattle.rows.specs.Merge.{merged_row}
+use Rattle.rows.specs.Checked.{records_in}
+use Rattle.rows.specs.declared.CheckedBook.{CheckedBook}
+use Rattle.rows.proofs.Configs.{merge_number, merge_config, merge_is_row}
+use Rattle.entries.specs.declared.lists.Entry.{Entry}
+use Rattle.entries.specs.declared.lists.Entry.TheVariants.{Leads}
+use Rattle.entries.specs.declared.lists.Opened.{Opened}
+use Rattle.entries.specs.Entries.{entry_of, entries_of, Inside}
+use Rattle.entries.specs.Opens.{OpenedAs, RefusedAs}
+use Rattle.entries.proofs.Dirs.{few_records}
+use Rattle.entries.proofs.Going.{all_before, all_after, all_head}
+use Rattle.load.specs.declared.Loaded.{Loaded}
+use Rattle.load.specs.Loads.{on_of, held, state_of, pending, Table, Gives, Went, ToldAs, Tells, ParentAs, walks, LoadPre, WalkPre, BringPre}
 
 -- The chain
 
@@ -47,247 +55,235 @@ spare on = tally 64 (λ i. 1) (λ i. not (on_of on i))
 pub spare_set : (on : List Bool) (c : ℕ) → c < 64 → length on ≡ 64 → get_or on c false ≡ false → spare on ≡ suc (spare (set on c true))
 unfolding spare
 spare_set on c lt long off =
-    free_cons {Val = λ f. ℕ} {B = ℕ} (record { size = 64; own = λ i. record { named = λ f. none; base = 0 }; entries = λ i. [] }) (on_of on) c lt off
+    free_cons {Val = λ f. ℕ} {B = ℕ} (record { size = 64; own = λ i. record { named = λ f. None; base = 0 }; entries = λ i. [] }) (on_of on) c lt off
     ∙ ap (λ chain. suc (tally 64 (λ i. 1) (λ i. not (chain i)))) (sym (on_add on c (omega (arith, lt, long))))
 
 one_more : (x : ℕ) → 1 + x ≡ suc x
 one_more x = omega arith
 
 -- a record that goes on the chain is pending no more
-pub pending_falls : (on : List Bool) (table : List ℕ) (c : ℕ) → c < 64 → length on ≡ 64 → get_or on c false ≡ false → holder table c ≡ absent → pending on table ≡ suc (pending (set on c true) table)
+pub pending_falls : (on : List Bool) (table : List (Option (List ℕ))) (c : ℕ) → c < 64 → length on ≡ 64 → get_or on c false ≡ false → held table c ≡ None → pending on table ≡ suc (pending (set on c true) table)
 unfolding pending
 pending_falls on table c lt long off free =
-    tally_ext 64 (λ i. 1) {d = λ i. not (on_of on i) && unloaded table i} {e = λ i. eqb i c || (not (on_of (set on c true) i) && unloaded table i)} (λ i. same i (eqb i c) refl)
-    ∙ tally_add (λ i. 1) (λ i. not (on_of (set on c true) i) && unloaded table i) c self 64 lt
-    ∙ one_more (tally 64 (λ i. 1) (λ i. not (on_of (set on c true) i) && unloaded table i))
+    tally_ext 64 (λ i. 1) {d = λ i. not (on_of on i) && not (is_some (held table i))} {e = λ i. eqb i c || (not (on_of (set on c true) i) && not (is_some (held table i)))} (λ i. same i (eqb i c) refl)
+    ∙ tally_add (λ i. 1) (λ i. not (on_of (set on c true) i) && not (is_some (held table i))) c self 64 lt
+    ∙ one_more (tally 64 (λ i. 1) (λ i. not (on_of (set on c true) i) && not (is_some (held table i))))
   where
-    same : (i : ℕ) (a : Bool) → eqb i c ≡ a → (not (on_of on i) && unloaded table i) ≡ (a || (not (on_of (set on c true) i) && unloaded table i))
-    same i true e = rw (eqb-true i c e, off, eq-eqb (holder table c) absent free) refl
+    same : (i : ℕ) (a : Bool) → eqb i c ≡ a → (not (on_of on i) && not (is_some (held table i))) ≡ (a || (not (on_of (set on c true) i) && not (is_some (held table i))))
+    same i true e = rw (eqb-true i c e, off, free) refl
     same i false e = rw (get_or-set_other on c i true false (eqb-false i c e)) refl
 
-    self : (not (on_of (set on c true) c) && unloaded table c) ≡ false
+    self : (not (on_of (set on c true) c) && not (is_some (held table c))) ≡ false
     self = rw (get_or-set_same on c true false (omega (arith, lt, long))) refl
-
--- nor is one that is loaded
-pub pending_put : (on : List Bool) (t u : List ℕ) (c : ℕ) → c < length on → (holder u c ≡ absent → ⊥) → ((i : ℕ) → (i ≡ c → ⊥) → holder u i ≡ holder t i) → pending on u ≡ pending (set on c true) t
-unfolding pending
-pending_put on t u c lt held others =
-    tally_ext 64 (λ i. 1) {d = λ i. not (on_of on i) && unloaded u i} {e = λ i. not (on_of (set on c true) i) && unloaded t i} (λ i. same i (eqb i c) refl)
-  where
-    no : (a : Bool) → (a && false) ≡ false
-    no true = refl
-    no false = refl
-
-    same : (i : ℕ) (a : Bool) → eqb i c ≡ a → (not (on_of on i) && unloaded u i) ≡ (not (on_of (set on c true) i) && unloaded t i)
-    same i true e = rw (eqb-true i c e, ne_eqb (holder u c) absent held, get_or-set_same on c true false lt) (no (not (get_or on c false)))
-    same i false e = rw (get_or-set_other on c i true false (eqb-false i c e), others i (eqb-false i c e)) refl
 
 -- The table
 
 -- a row put into the table
-module _ (rs : List Parsed) (t u row : List ℕ) (c : ℕ) (same : row_at u c ≡ row) (held : holder u c ≡ absent → ⊥) (others : (i : ℕ) → (i ≡ c → ⊥) → row_at u i ≡ row_at t i) (holders : (i : ℕ) → (i ≡ c → ⊥) → holder u i ≡ holder t i) where
-  pub state_put : (m : ℕ) → state_of rs u m ≡ put c (config_of rs row) (state_of rs t m)
+module _ (rs : List Parsed) (t : List (Option (List ℕ))) (row : List ℕ) (c : ℕ) (lt : c < length t) where
+  put_same : held (set t c (Some row)) c ≡ Some row
+  put_same = get_or-set_same t c (Some row) None lt
+
+  put_other : (i : ℕ) → (i ≡ c → ⊥) → held (set t c (Some row)) i ≡ held t i
+  put_other i n = get_or-set_other t c i (Some row) None n
+
+  state_put : (m : ℕ) → state_of rs (set t c (Some row)) m ≡ put c (config_of rs row) (state_of rs t m)
   unfolding state_of
   state_put m = λ i. record { table = λ k. go k (eqb k c) refl i; merges = m }
     where
-      go : (k : ℕ) (a : Bool) → eqb k c ≡ a → ◌≡◌ {A = Option Merged} (cond (unloaded u k) none (some (config_of rs (row_at u k)))) (cond a (some (config_of rs row)) (cond (unloaded t k) none (some (config_of rs (row_at t k)))))
-      go k true e = rw (eqb-true k c e, ne_eqb (holder u c) absent held, same) refl
-      go k false e = rw (others k (eqb-false k c e), holders k (eqb-false k c e)) refl
+      go : (k : ℕ) (a : Bool) → eqb k c ≡ a → option_map (config_of rs) (held (set t c (Some row)) k) ≡ cond a (Some (config_of rs row)) (option_map (config_of rs) (held t k))
+      go k true e = rw (eqb-true k c e, put_same) refl
+      go k false e = rw (put_other k (eqb-false k c e)) refl
 
-  pub table_put : length u ≡ 1792 → Row rs row → number_of row ≡ c → Table rs t → Table rs u
-  table_put l r o h = record {
-    long = l;
-    rows = λ i k. by_test (eqb i c) (λ t. rw (eqb-true i c t, same) r) (λ f. subst (Row rs) (sym (others i (eqb-false i c f))) (h.rows i (λ z. k (holders i (eqb-false i c f) ∙ z))));
-    own = λ i k. by_test (eqb i c) (λ t. rw (eqb-true i c t) (sym (row_place u c 27 (omega arith)) ∙ ap number_of same ∙ o)) (λ f. holders i (eqb-false i c f) ∙ h.own i (λ z. k (holders i (eqb-false i c f) ∙ z)));
+  table_put : Row rs row → row_number row ≡ c → Table rs t → Table rs (set t c (Some row))
+  table_put r o h = record {
+    rows = λ i x k. by_test (eqb i c) (λ e. let z : row ≡ x = same_row i x k e in subst (Row rs) z r) (λ f. h.rows i x (sym (put_other i (eqb-false i c f)) ∙ k));
+    own = λ i x k. by_test (eqb i c) (λ e. let z : row ≡ x = same_row i x k e in ap row_number (sym z) ∙ o ∙ sym (eqb-true i c e)) (λ f. h.own i x (sym (put_other i (eqb-false i c f)) ∙ k));
   }
+    where
+      same_row : (i : ℕ) (x : List ℕ) → held (set t c (Some row)) i ≡ Some x → eqb i c ≡ true → row ≡ x
+      same_row i x k e = let z : Some row ≡ Some x = sym put_same ∙ ap (held (set t c (Some row))) (sym (eqb-true i c e)) ∙ k in cc
 
-module _ (rs : List Parsed) (table : List ℕ) (m v : ℕ) where
-  pub state_held : (holder table v ≡ absent → ⊥) → (state_of rs table m).table v ≡ some (config_of rs (row_at table v))
-  unfolding state_of
-  state_held h = rw (ne_eqb (holder table v) absent h) refl
+  -- a record that is loaded is pending no more
+  pending_after : (on : List Bool) → c < length on → pending on (set t c (Some row)) ≡ pending (set on c true) t
+  unfolding pending
+  pending_after on l =
+      tally_ext 64 (λ i. 1) {d = λ i. not (on_of on i) && not (is_some (held (set t c (Some row)) i))} {e = λ i. not (on_of (set on c true) i) && not (is_some (held t i))} (λ i. same i (eqb i c) refl)
+    where
+      no : (a : Bool) → (a && false) ≡ false
+      no true = refl
+      no false = refl
 
-  pub state_free : holder table v ≡ absent → (state_of rs table m).table v ≡ none
-  unfolding state_of
-  state_free h = rw (eq-eqb (holder table v) absent h) refl
+      same : (i : ℕ) (a : Bool) → eqb i c ≡ a → (not (on_of on i) && not (is_some (held (set t c (Some row)) i))) ≡ (not (on_of (set on c true) i) && not (is_some (held t i)))
+      same i true e = rw (eqb-true i c e, put_same, get_or-set_same on c true false l) (no (not (get_or on c false)))
+      same i false e = rw (get_or-set_other on c i true false (eqb-false i c e), put_other i (eqb-false i c e)) refl
 
-pub state_counted : (rs : List Parsed) (table : List ℕ) (m : ℕ) → state_of rs table (m + 1) ≡ counted (state_of rs table m)
+state_counted : (rs : List Parsed) (table : List (Option (List ℕ))) (m : ℕ) → state_of rs table (m + 1) ≡ counted (state_of rs table m)
 unfolding state_of
-state_counted rs table m = λ i. record { table = λ k. cond (unloaded table k) none (some (config_of rs (row_at table k))); merges = add-one m i }
+state_counted rs table m = λ i. record { table = λ k. option_map (config_of rs) (held table k); merges = add-one m i }
 
 -- What is told
 
-module _ (rs : List Parsed) (on : List Bool) (c : ℕ) (row table : List ℕ) where
-  -- of the same answer, with more left
-  pub told_same : (most more : ℕ) (a b : Gives) (r : Told) → a ≡ b → most ≤ more → Tells rs on c most a row table r → Tells rs on c more b row table r
-  told_same most more a b (Refused k p) e h q = record { told = sym e ∙ q.told }
-  told_same most more a b (Done m) e h q =
-      record { told = record { answer = sym e ∙ q.told.answer; row = q.told.row; own = q.told.own; table = q.told.table; few = omega (arith, h, q.told.few) } }
+-- of the same answer
+told_same : (rs : List Parsed) (on : List Bool) (c most : ℕ) (table : List (Option (List ℕ))) (a b : Gives) (r : Result Loaded Refusal) → a ≡ b → Tells rs on c most a table r → Tells rs on c most b table r
+told_same rs on c most table a b r e q = subst (λ (x : Gives). Tells rs on c most x table r) e q
 
-  pub told_refused : (most : ℕ) (a : Gives) (r : Told) (k p : ℕ) → r ≡ Refused k p → Tells rs on c most a row table r → a ≡ refused k p
-  told_refused most a r k p e q = subst (ToldAs rs on c most a row table) e q.told
+-- The record v is brought
 
-  pub told_done : (most : ℕ) (a : Gives) (r : Told) (m : ℕ) → r ≡ Done m → Tells rs on c most a row table r → Went rs on c most a row table m
-  told_done most a r m e q = subst (ToldAs rs on c most a row table) e q.told
+module _ (rs : List Parsed) (on : List Bool) (v : ℕ) (table : List (Option (List ℕ))) (m : ℕ) where
+  recalls : (o : Option (List ℕ)) → held table v ≡ o → recall ((state_of rs table m).table v) (load (seen rs) (on_of on) v) (state_of rs table m) ≡ recall (option_map (config_of rs) o) (load (seen rs) (on_of on) v) (state_of rs table m)
+  unfolding state_of
+  recalls o e = ap (λ (o : Option (List ℕ)). recall (option_map (config_of rs) o) (load (seen rs) (on_of on) v) (state_of rs table m)) e
 
--- the last of the first k codes is the first that the walk meets
-pub last_first : (n : ℕ) (codes : List ℕ) (j : ℕ) → j < length codes → reverse (coded n codes (suc j)) ≡ entry_of n (get_or codes j 0) ∷ reverse (coded n codes j)
-last_first n codes j h =
-    ap reverse (ap (map (entry_of n)) (take-suc codes j 0 h) ∙ map-append (entry_of n) (take j codes) (get_or codes j 0 ∷ []))
-    ∙ reverse-append (coded n codes j) (entry_of n (get_or codes j 0) ∷ [])
+  pub bring_held : (row : List ℕ) → held table v ≡ Some row → Table rs table → Tells rs on v (m + 8 * pending on table) (recall ((state_of rs table m).table v) (load (seen rs) (on_of on) v) (state_of rs table m)) table (Ok (record { row = row; merges = m }))
+  bring_held row e t = record { told = record { answer = recalls (Some row) e; row = t.rows v row e; own = t.own v row e; table = t; few = omega arith } }
 
--- A parent, branch by branch: v is the code that is read
+  pub bring_loaded :
+      held table v ≡ None → (most : ℕ) (t : List (Option (List ℕ))) (r : Result Loaded Refusal) → Tells rs on v most (load (seen rs) (on_of on) v (state_of rs table m)) t r →
+      Tells rs on v most (recall ((state_of rs table m).table v) (load (seen rs) (on_of on) v) (state_of rs table m)) t r
+  bring_loaded e most t r p = told_same rs on v most t _ _ r (sym (recalls None e)) p
 
-module _ (rs : List Parsed) (on : List Bool) (c n v : ℕ) (table : List ℕ) (m : ℕ) where
-  -- the entry is known
-  brings : (e : Entry) → entry_of n v ≡ e → parent (load (seen rs) (on_of on)) c (entry_of n v) (state_of rs table m) ≡ parent (load (seen rs) (on_of on)) c e (state_of rs table m)
-  brings e h = ap (λ (e : Entry). parent (load (seen rs) (on_of on)) c e (state_of rs table m)) h
+-- The walk
 
-  module _ (out : n ≤ v) where
-    pub bring_missing : v ≡ 253 → parent (load (seen rs) (on_of on)) c (entry_of n v) (state_of rs table m) ≡ refused 8 c
-    unfolding entry_of
-    bring_missing e = brings missing (rw (le-ltb v n out, e) refl)
+last_split : (es : List Entry) (j : ℕ) (d : Entry) → length es ≡ suc j → es ≡ take j es ++ (get_or es j d ∷ [])
+last_split es j d h = sym (take_all (suc j) es (omega (arith, h))) ∙ take-suc es j d (omega (arith, h))
 
-    pub bring_bare : v ≡ 254 → parent (load (seen rs) (on_of on)) c (entry_of n v) (state_of rs table m) ≡ refused 12 c
-    unfolding entry_of
-    bring_bare e = brings bare (rw (le-ltb v n out, e) refl)
+-- the last of the entries is the first that the walk meets
+last_first : (es : List Entry) (j : ℕ) (d : Entry) → length es ≡ suc j → reverse (entries_of es) ≡ entry_of (get_or es j d) ∷ reverse (entries_of (take j es))
+last_first es j d h =
+    ap (λ (l : List Entry). reverse (entries_of l)) (last_split es j d h)
+    ∙ ap reverse (map-append entry_of (take j es) (get_or es j d ∷ []))
+    ∙ reverse-append (entries_of (take j es)) (entry_of (get_or es j d) ∷ [])
 
-    pub bring_empty : (v ≡ 253 → ⊥) → (v ≡ 254 → ⊥) → parent (load (seen rs) (on_of on)) c (entry_of n v) (state_of rs table m) ≡ refused 11 c
-    unfolding entry_of
-    bring_empty e f = brings empty (rw (le-ltb v n out, ne_eqb v 253 e, ne_eqb v 254 f) refl)
+-- what is left of the entries is walked over as all of them are
+pub record Walking (book : CheckedBook) (on : List Bool) (c : ℕ) (es : List Entry) (x : List ℕ) (t : List (Option (List ℕ))) (m : ℕ) (left : List Entry) (row : List ℕ) (table : List (Option (List ℕ))) (merges : ℕ) : Type 0 where
+  pub same : walks (records_in book) on c es (config_of (records_in book) x) (state_of (records_in book) t m) ≡ walks (records_in book) on c left (config_of (records_in book) row) (state_of (records_in book) table merges)
+  pub pre : WalkPre book table on c left row merges
+  pub few : merges + length left + 8 * pending on table ≤ m + length es + 8 * pending on t
 
-  module _ (lt : v < n) where
-    -- the entry leads to a record
-    leads_on : parent (load (seen rs) (on_of on)) c (entry_of n v) (state_of rs table m) ≡ recall ((state_of rs table m).table v) (load (seen rs) (on_of on) v) (state_of rs table m)
-    unfolding entry_of
-    leads_on = brings (leads v) (rw (lt-ltb v n lt) refl)
+module _ (book : CheckedBook) (on : List Bool) (c : ℕ) (es : List Entry) (x : List ℕ) (t : List (Option (List ℕ))) (m : ℕ) where
+  pub walking_start : WalkPre book t on c es x m → Walking book on c es x t m es x t m
+  walking_start p = record { same = refl; pre = p; few = omega arith }
 
-    leads_to : (o : Option Merged) → (state_of rs table m).table v ≡ o → parent (load (seen rs) (on_of on)) c (entry_of n v) (state_of rs table m) ≡ recall o (load (seen rs) (on_of on) v) (state_of rs table m)
-    leads_to o e = leads_on ∙ ap (λ (o : Option Merged). recall o (load (seen rs) (on_of on) v) (state_of rs table m)) e
+  module _ (left : List Entry) (row : List ℕ) (table : List (Option (List ℕ))) (merges : ℕ) (w : Walking book on c es x t m left row table merges) where
+    pub walking_end : length left ≡ 0 → Tells (records_in book) on c (m + length es + 8 * pending on t) (walks (records_in book) on c es (config_of (records_in book) x) (state_of (records_in book) t m)) table (Ok (record { row = row; merges = merges }))
+    walking_end z = record { told = record { answer = w.same ∙ none left z; row = w.pre.row; own = w.pre.own; table = w.pre.table; few = omega (arith, w.few) } }
+      where
+        none : (l : List Entry) → length l ≡ 0 → walks (records_in book) on c l (config_of (records_in book) row) (state_of (records_in book) table merges) ≡ done (config_of (records_in book) row) (state_of (records_in book) table merges)
+        none [] z = refl
+        none (e ∷ l) z = absurd (omega (arith, z))
 
-    pub bring_held : (holder table v ≡ absent → ⊥) → Table rs table → Tells rs on v (m + 8 * pending on table) (parent (load (seen rs) (on_of on)) c (entry_of n v) (state_of rs table m)) (row_at table v) table (Done m)
-    bring_held held t = record {
-      told = record {
-        answer = leads_to (some (config_of rs (row_at table v))) (state_held rs table m v held);
-        row = t.rows v held;
-        own = row_place table v 27 (omega arith) ∙ t.own v held;
-        table = t;
-        few = omega arith;
-      };
-    }
-
-    pub bring_loaded : holder table v ≡ absent → (t : List ℕ) (u : Told) →
-        Tells rs on v (m + 8 * pending on table) (load (seen rs) (on_of on) v (state_of rs table m)) (row_at t v) t u →
-        Tells rs on v (m + 8 * pending on table) (parent (load (seen rs) (on_of on)) c (entry_of n v) (state_of rs table m)) (row_at t v) t u
-    bring_loaded free t u p = told_same rs on v (row_at t v) t (m + 8 * pending on table) (m + 8 * pending on table) _ _ u (sym (leads_to none (state_free rs table m v free))) (omega arith) p
-
--- the code as the entry's byte
-pub bring_byte : (rs : List Parsed) (on : List Bool) (c n v e : ℕ) → v ≡ e → (most : ℕ) (s : Store) (t : List ℕ) (u : Told) →
-    Tells rs on v most (parent (load (seen rs) (on_of on)) c (entry_of n v) s) (row_at t v) t u → Tells rs on e most (parent (load (seen rs) (on_of on)) c (entry_of n e) s) (row_at t e) t u
-bring_byte rs on c n v e is most s t u p = subst (λ (x : ℕ). Tells rs on x most (parent (load (seen rs) (on_of on)) c (entry_of n x) s) (row_at t x) t u) is p
-
--- The walk, branch by branch
-
-module _ (rs : List Parsed) (on : List Bool) (c n : ℕ) (codes : List ℕ) where
-  module _ (k : ℕ) (row table : List ℕ) (m : ℕ) where
-    pub walk_none : k ≡ 0 → Row rs row → number_of row ≡ c → Table rs table → Tells rs on c (m + k + 8 * pending on table) (walks rs on c n codes k (config_of rs row) (state_of rs table m)) row table (Done m)
-    walk_none z r o t = record { told = record { answer = rw z refl; row = r; own = o; table = t; few = omega arith } }
-
-    module _ (long : k ≤ length codes) (more : k ≡ 0 → ⊥) where
-      head_of : (j : ℕ) → k ≡ suc j → reverse (coded n codes k) ≡ entry_of n (get_or codes (k - 1) 0) ∷ reverse (coded n codes (k - 1))
-      head_of j e = let d : k - 1 ≡ j = omega (arith, e) in rw (d, e) (last_first n codes j (omega (arith, e, long)))
-
-      head : reverse (coded n codes k) ≡ entry_of n (get_or codes (k - 1) 0) ∷ reverse (coded n codes (k - 1))
-      head = go k refl
-        where
-          go : (i : ℕ) → k ≡ i → reverse (coded n codes k) ≡ entry_of n (get_or codes (k - 1) 0) ∷ reverse (coded n codes (k - 1))
-          go zero e = absurd (more e)
-          go (suc j) e = head_of j e
-
+    module _ (j : ℕ) (h : length left ≡ suc j) (d e : Entry) (i : e ≡ get_or left j d) where
       -- what the walk does with the parent that it meets
       next : Gives → Gives
-      next z = z >>= λ r. walks rs on c n codes (k - 1) (merge (config_of rs row) r.config) (counted r.state)
+      next z = z >>= λ r. walks (records_in book) on c (take j left) (merge (config_of (records_in book) row) r.config) (counted r.state)
 
-      -- e is the code that is read
-      module _ (e : ℕ) (t : List ℕ) (u : Told)
-          (p : Tells rs on e (m + 8 * pending on table) (parent (load (seen rs) (on_of on)) c (entry_of n e) (state_of rs table m)) (row_at t e) t u) (is : e ≡ get_or codes (k - 1) 0) where
-        meets : walks rs on c n codes k (config_of rs row) (state_of rs table m) ≡ next (parent (load (seen rs) (on_of on)) c (entry_of n e) (state_of rs table m))
-        unfolding next
-        meets =
-            ap (λ (l : List Entry). walk (load (seen rs) (on_of on)) c l (config_of rs row) (state_of rs table m)) head
-            ∙ ap (λ (x : ℕ). next (parent (load (seen rs) (on_of on)) c (entry_of n x) (state_of rs table m))) (sym is)
+      meets : walks (records_in book) on c es (config_of (records_in book) x) (state_of (records_in book) t m) ≡ next (parent (load (seen (records_in book)) (on_of on)) c (entry_of e) (state_of (records_in book) table merges))
+      unfolding next
+      meets =
+          w.same
+          ∙ ap (λ (l : List line.Entry). walk (load (seen (records_in book)) (on_of on)) c l (config_of (records_in book) row) (state_of (records_in book) table merges)) (last_first left j d h)
+          ∙ ap (λ (y : Entry). next (parent (load (seen (records_in book)) (on_of on)) c (entry_of y) (state_of (records_in book) table merges))) (sym i)
 
-        pub walk_refused : (a b : ℕ) → u ≡ Refused a b → walks rs on c n codes k (config_of rs row) (state_of rs table m) ≡ refused a b
-        unfolding next
-        walk_refused a b f = meets ∙ ap next (told_refused rs on e (row_at t e) t (m + 8 * pending on table) _ u a b f p)
+      pub walk_refused : (r : Refusal) → ParentAs c e (Err r) → walks (records_in book) on c es (config_of (records_in book) x) (state_of (records_in book) t m) ≡ refusal r
+      unfolding next
+      walk_refused r p = meets ∙ ap next (p (load (seen (records_in book)) (on_of on)) (state_of (records_in book) table merges))
 
-        module _ (d : ℕ) (f : u ≡ Done d) (v : ℕ) (byte : v ≡ e) where
-          -- the parent is there
-          pub walk_went : Went rs on v (m + 8 * pending on table) (parent (load (seen rs) (on_of on)) c (entry_of n e) (state_of rs table m)) (row_at t v) t d
-          walk_went = rw byte (told_done rs on e (row_at t e) t (m + 8 * pending on table) _ u d f p)
+      module _ (v : ℕ) (l : e ≡ Leads v) where
+        leads_on : walks (records_in book) on c es (config_of (records_in book) x) (state_of (records_in book) t m) ≡ next (recall ((state_of (records_in book) table merges).table v) (load (seen (records_in book)) (on_of on) v) (state_of (records_in book) table merges))
+        leads_on = meets ∙ ap (λ (y : Entry). next (parent (load (seen (records_in book)) (on_of on)) c (entry_of y) (state_of (records_in book) table merges))) l
 
-          pub walk_on : (row₂ : List ℕ) → config_of rs row₂ ≡ merge (config_of rs row) (config_of rs (row_at t v)) → (row₃ table₃ : List ℕ) (r : Told) →
-              Tells rs on c (d + 1 + (k - 1) + 8 * pending on t) (walks rs on c n codes (k - 1) (config_of rs row₂) (state_of rs t (d + 1))) row₃ table₃ r →
-              Tells rs on c (m + k + 8 * pending on table) (walks rs on c n codes k (config_of rs row) (state_of rs table m)) row₃ table₃ r
+        pub bring_next : BringPre book table on v merges
+        bring_next = record {
+          table = w.pre.table;
+          inside = (all_head (get_or left j d) [] (all_after (take j left) (get_or left j d ∷ []) (subst (All (Inside book.paths.count)) (last_split left j d h) w.pre.entries))).inside v (sym i ∙ l);
+          few = omega (arith, w.pre.few);
+        }
+
+        module _ (new : List (Option (List ℕ))) (r : Result Loaded Refusal)
+            (q : Tells (records_in book) on v (merges + 8 * pending on table) (recall ((state_of (records_in book) table merges).table v) (load (seen (records_in book)) (on_of on) v) (state_of (records_in book) table merges)) new r) where
+          pub bring_refused : (f : Refusal) → r ≡ Err f → walks (records_in book) on c es (config_of (records_in book) x) (state_of (records_in book) t m) ≡ refusal f
           unfolding next
-          walk_on row₂ g row₃ table₃ r q =
-              told_same rs on c row₃ table₃ (d + 1 + (k - 1) + 8 * pending on t) (m + k + 8 * pending on table) _ _ r
-              (ap₂ (walks rs on c n codes (k - 1)) g (state_counted rs t d) ∙ sym (meets ∙ ap next walk_went.answer))
-              (omega (arith, more, walk_went.few)) q
+          bring_refused f k = leads_on ∙ ap next (subst (ToldAs (records_in book) on v (merges + 8 * pending on table) (recall ((state_of (records_in book) table merges).table v) (load (seen (records_in book)) (on_of on) v) (state_of (records_in book) table merges)) new) k q.told)
 
--- the codes that are handed on are those that are walked over
-pub walk_taken : (rs : List Parsed) (on : List Bool) (c n : ℕ) (codes : List ℕ) (k most : ℕ) (x : Merged) (s : Store) (row table : List ℕ) (r : Told) (short : List ℕ) → short ≡ take k codes →
-    Tells rs on c most (walks rs on c n short k x s) row table r → Tells rs on c most (walks rs on c n codes k x s) row table r
-walk_taken rs on c n codes k most x s row table r short e q = told_same rs on c row table most most _ _ r (ap (λ (l : List ℕ). walk (load (seen rs) (on_of on)) c (reverse (map (entry_of n) l)) x s) (ap (take k) e ∙ take-take k k codes (omega arith))) (omega arith) q
+          module _ (far : Loaded) (k : r ≡ Ok far) where
+            pub brought : Went (records_in book) on v (merges + 8 * pending on table) (recall ((state_of (records_in book) table merges).table v) (load (seen (records_in book)) (on_of on) v) (state_of (records_in book) table merges)) new far
+            brought = subst (ToldAs (records_in book) on v (merges + 8 * pending on table) (recall ((state_of (records_in book) table merges).table v) (load (seen (records_in book)) (on_of on) v) (state_of (records_in book) table merges)) new) k q.told
 
--- The load, branch by branch
+            pub walking_on : (y : List ℕ) → y ≡ merged_row row far.row → Walking book on c es x t m (take j left) y new (far.merges + 1)
+            unfolding next
+            walking_on y f = record {
+              same =
+                  leads_on
+                  ∙ ap next brought.answer
+                  ∙ ap₂ (walks (records_in book) on c (take j left)) (sym (ap (config_of (records_in book)) f ∙ merge_config (records_in book) book.records.few row far.row w.pre.row brought.row)) (sym (state_counted (records_in book) new far.merges));
+              pre = record {
+                table = brought.table;
+                entries = all_before (take j left) (get_or left j d ∷ []) (subst (All (Inside book.paths.count)) (last_split left j d h) w.pre.entries);
+                row = subst (Row (records_in book)) (sym f) (merge_is_row (records_in book) book.records.few row far.row w.pre.row brought.row);
+                own = ap row_number f ∙ merge_number (records_in book) book.records.few row far.row w.pre.row brought.row ∙ w.pre.own;
+                few = omega (arith, w.pre.few, brought.few, h, length-take j left);
+              };
+              few = omega (arith, w.few, brought.few, h, length-take j left);
+            }
+
+-- The load
 
 module _ (rs : List Parsed) (on : List Bool) (c : ℕ) (inside : c < length rs) where
   -- the load's law with the test's answer and the entries' put in
-  by_tests : (a : Bool) (o : Option ℕ) → on_of on c ≡ a → unread ((seen rs).entries c) ≡ o → (s : Store) → load (seen rs) (on_of on) c s ≡ unless (cond a (some 9) o) c (fresh (seen rs) (load (seen rs) (add c (on_of on))) c) s
+  by_tests : (a : Bool) (o : Option ℕ) → on_of on c ≡ a → unread ((seen rs).entries c) ≡ o → (s : Store) → load (seen rs) (on_of on) c s ≡ unless (cond a (Some 9) o) c (fresh (seen rs) (load (seen rs) (add c (on_of on))) c) s
   by_tests a o e f s =
       load_law (seen rs) (on_of on) c s inside
-      ∙ ap₂ (λ (x : Bool) (y : Option ℕ). unless (cond x (some 9) y) c (fresh (seen rs) (load (seen rs) (add c (on_of on))) c) s) e f
+      ∙ ap₂ (λ (x : Bool) (y : Option ℕ). unless (cond x (Some 9) y) c (fresh (seen rs) (load (seen rs) (add c (on_of on))) c) s) e f
 
   pub load_on : get_or on c false ≡ true → (s : Store) → load (seen rs) (on_of on) c s ≡ refused 9 c
   load_on e s = by_tests true (unread ((seen rs).entries c)) e refl s
 
-  module _ (off : get_or on c false ≡ false) (n : ℕ) (codes row : List ℕ) (o : Opening) (p : Opens rs n c codes row o) where
-    pub load_unread : (x : ℕ) → o ≡ opening.Refused x → (s : Store) → load (seen rs) (on_of on) c s ≡ refused x c
-    load_unread x e s = by_tests false (some x) off (subst (OpenedAs rs n c codes row) e p.told) s
+  module _ (off : get_or on c false ≡ false) where
+    pub load_unread : (r : Refusal) → RefusedAs rs c r → (s : Store) → load (seen rs) (on_of on) c s ≡ refusal r
+    load_unread r p s = by_tests false (Some (number_of r.fault)) off p.why s ∙ ap (refused (number_of r.fault)) (sym p.place)
 
-    module _ (k : ℕ) (e : o ≡ opening.Ready k) (long : length on ≡ 64) (lt : c < 64) (table : List ℕ) (m : ℕ) where
-      pub load_ready : Ready rs n c codes row k
-      load_ready = subst (OpenedAs rs n c codes row) e p.told
+    module _ (o : Opened) (p : OpenedAs rs c o) (long : length on ≡ 64) (lt : c < 64) (table : List (Option (List ℕ))) (m : ℕ) (es : List Entry) (is : es ≡ take o.entries.count o.entries.all) where
+      few_entries : length es ≤ 8
+      few_entries = omega (arith, ap length is, length-take o.entries.count o.entries.all, o.entries.few)
 
-      opens : load (seen rs) (on_of on) c (state_of rs table m) ≡ (walks rs (set on c true) c n codes k (config_of rs row) (state_of rs table m) >>= λ v. done v.config (put c v.config v.state))
+      opens : load (seen rs) (on_of on) c (state_of rs table m) ≡ (walks rs (set on c true) c es (config_of rs o.row) (state_of rs table m) >>= λ v. done v.config (put c v.config v.state))
       opens =
-          by_tests false none off load_ready.read (state_of rs table m)
+          by_tests false None off p.read (state_of rs table m)
           ∙ ap (λ (z : Gives). z >>= λ v. done v.config (put c v.config v.state))
-          (sym (ap₂ (λ (chain : ℕ → Bool) (l : List Entry). walk (load (seen rs) chain) c (reverse l) (config_of rs row) (state_of rs table m)) (on_add on c (omega (arith, long, lt))) load_ready.entries
-          ∙ ap (λ (x : Merged). walk (load (seen rs) (add c (on_of on))) c (reverse ((seen rs).entries c)) x (state_of rs table m)) load_ready.config))
+          (sym (ap₂ (λ (chain : ℕ → Bool) (l : List line.Entry). walk (load (seen rs) chain) c (reverse l) (config_of rs o.row) (state_of rs table m)) (on_add on c (omega (arith, long, lt))) (ap entries_of is ∙ p.entries.entries)
+          ∙ ap (λ (x : Merged). walk (load (seen rs) (add c (on_of on))) c (reverse ((seen rs).entries c)) x (state_of rs table m)) p.config))
 
-      module _ (free : holder table c ≡ absent) (short : List ℕ) (is : short ≡ take k codes) (row₂ t : List ℕ) (w : Told)
-          (q : Tells rs (set on c true) c (m + k + 8 * pending (set on c true) table) (walks rs (set on c true) c n short k (config_of rs row) (state_of rs table m)) row₂ t w) where
-        taken : Tells rs (set on c true) c (m + k + 8 * pending (set on c true) table) (walks rs (set on c true) c n codes k (config_of rs row) (state_of rs table m)) row₂ t w
-        taken = walk_taken rs (set on c true) c n codes k (m + k + 8 * pending (set on c true) table) (config_of rs row) (state_of rs table m) row₂ t w short is q
+      module _ (free : held table c ≡ None) (t : List (Option (List ℕ))) (w : Result Loaded Refusal)
+          (q : Tells rs (set on c true) c (m + length es + 8 * pending (set on c true) table) (walks rs (set on c true) c es (config_of rs o.row) (state_of rs table m)) t w) where
+        pub load_refused : (r : Refusal) → w ≡ Err r → load (seen rs) (on_of on) c (state_of rs table m) ≡ refusal r
+        load_refused r f =
+            opens
+            ∙ ap (λ (z : Gives). z >>= λ v. done v.config (put c v.config v.state)) (subst (ToldAs rs (set on c true) c (m + length es + 8 * pending (set on c true) table) (walks rs (set on c true) c es (config_of rs o.row) (state_of rs table m)) t) f q.told)
 
-        pub load_refused : (a b : ℕ) → w ≡ Refused a b → load (seen rs) (on_of on) c (state_of rs table m) ≡ refused a b
-        load_refused a b f = opens ∙ ap (λ (z : Gives). z >>= λ v. done v.config (put c v.config v.state)) (told_refused rs (set on c true) c row₂ t (m + k + 8 * pending (set on c true) table) (walks rs (set on c true) c n codes k (config_of rs row) (state_of rs table m)) w a b f taken)
+        module _ (l : Loaded) (f : w ≡ Ok l) where
+          walked : Went rs (set on c true) c (m + length es + 8 * pending (set on c true) table) (walks rs (set on c true) c es (config_of rs o.row) (state_of rs table m)) t l
+          walked = subst (ToldAs rs (set on c true) c (m + length es + 8 * pending (set on c true) table) (walks rs (set on c true) c es (config_of rs o.row) (state_of rs table m)) t) f q.told
 
-        module _ (d : ℕ) (f : w ≡ Done d) where
-          pub load_went : Went rs (set on c true) c (m + k + 8 * pending (set on c true) table) (walks rs (set on c true) c n codes k (config_of rs row) (state_of rs table m)) row₂ t d
-          load_went = told_done rs (set on c true) c row₂ t (m + k + 8 * pending (set on c true) table) (walks rs (set on c true) c n codes k (config_of rs row) (state_of rs table m)) w d f taken
+          pub load_done : length t ≡ 64 → Went rs on c (m + 8 * pending on table) (load (seen rs) (on_of on) c (state_of rs table m)) (set t c (Some l.row)) l
+          load_done n =
+              let k : c < length t = omega (arith, n, lt) in
+              record {
+                answer =
+                    opens
+                    ∙ ap (λ (z : Gives). z >>= λ v. done v.config (put c v.config v.state)) walked.answer
+                    ∙ sym (ap (done (config_of rs l.row)) (state_put rs t l.row c k l.merges));
+                row = walked.row;
+                own = walked.own;
+                table = table_put rs t l.row c k walked.row walked.own walked.table;
+                few = omega (arith, walked.few, few_entries, pending_after rs t l.row c k on (omega (arith, long, lt)), pending_falls on table c lt long off free);
+              }
 
-          pub load_done :
-              (u : List ℕ) → length u ≡ 1792 → row_at u c ≡ row₂ → (holder u c ≡ absent → ⊥) → ((i : ℕ) → (i ≡ c → ⊥) → row_at u i ≡ row_at t i) → ((i : ℕ) → (i ≡ c → ⊥) → holder u i ≡ holder t i) →
-              Went rs on c (m + 8 * pending on table) (load (seen rs) (on_of on) c (state_of rs table m)) (row_at u c) u d
-          load_done u l same held others holders = record {
-            answer =
-                opens
-                ∙ ap (λ (z : Gives). z >>= λ v. done v.config (put c v.config v.state)) load_went.answer
-                ∙ sym (ap₂ (λ (x : Merged) (s : Store). done x s) (ap (config_of rs) same) (state_put rs t u row₂ c same held others holders d));
-            row = rw same load_went.row;
-            own = rw same load_went.own;
-            table = table_put rs t u row₂ c same held others holders l load_went.row load_went.own load_went.table;
-            few = omega (arith, load_went.few, load_ready.few, pending_put on t u c (omega (arith, long, lt)) held holders, pending_falls on table c lt long off free);
-          }
+-- what the walk from the record asks
+pub walk_start : (book : CheckedBook) (t : List (Option (List ℕ))) (on : List Bool) (c m : ℕ) → length on ≡ 64 → LoadPre book t on c m → get_or on c false ≡ false → (o : Opened) → OpenedAs (records_in book) c o → (es : List Entry) → es ≡ take o.entries.count o.entries.all → WalkPre book t (set on c true) c es o.row m
+walk_start book t on c m long p off o q es is = record {
+  table = p.table;
+  entries = subst (All (Inside book.paths.count)) (sym is) (subst (λ (n : ℕ). All (Inside n) (take o.entries.count o.entries.all)) book.listed.size q.entries.inside);
+  row = q.row;
+  own = q.own;
+  few = omega (arith, p.few, ap length is, length-take o.entries.count o.entries.all, o.entries.few, pending_falls on t c (omega (arith, p.inside, few_records book)) long off p.fresh);
+}

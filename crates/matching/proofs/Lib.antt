@@ -1,3 +1,2 @@
 -- Laws of what is matched.
 pub mod Patterns
-pub mod Sizes

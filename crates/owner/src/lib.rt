@@ -1,141 +1,97 @@
 // The owner of a file: find_tsconfig_auto and resolve_tsconfig_solution.
 #![tactic(auto)]
 
-ghost use Rattle.std.specs.Prelude.{◌≡◌};
-ghost use Rattle.std.proofs.Math.Option.{none};
+ghost use Rattle.std.specs.Prelude.{◌≡◌, None};
 ghost use Rattle.names.specs.Names.{tsconfig_json};
 ghost use Rattle.join.specs.Join.{push_of};
 ghost use Rattle.book.specs.Answer.{given};
 ghost use Rattle.book.specs.Find.{find};
-ghost use Rattle.records.specs.Paths.{found_number};
+ghost use Rattle.book.specs.Sound.{All};
 ghost use Rattle.tsconfig_resolver.specs.Find.{paths_of};
 ghost use Rattle.tsconfig_resolver.specs.Project.{owner_of};
+ghost use Rattle.rows.specs.Checked.{records_in};
 ghost use Rattle.rows.specs.Rows.{Row, site_of};
-ghost use Rattle.rows.specs.Records.{Records, Paths, records_of};
 ghost use Rattle.references.specs.References.{sites_of};
-ghost use Rattle.owner.specs.Owned.{claimer, answered, Held, OwnedAs, FolderAs};
+ghost use Rattle.owner.specs.Owned.{claimer, answered, OwnedAs, FolderAs};
 
+use book::Refusal;
 use claims::is_claimed;
 use component_walk::{count_components, inside_node_modules};
-use ends::parent_len;
-use records::config_in;
-use references::{Whole, load_record};
+use ends::parent;
+use references::load_record;
+use rows::{ABSENT, CheckedBook, ROW};
 use sites::site_number;
-use text::{Found, between, upto};
 
+// The owner of a file: the record of the config found on the walk, and that of its solution.
 #[derive(Clone, Copy)]
-pub enum Owned {
-    // A refusal's number and place.
-    Refused(u32, usize),
-    Nobody,
-    // The config found on the walk, and its solution.
-    By(usize, usize),
+pub struct Owner {
+    pub found: usize,
+    pub solution: usize,
 }
 
-// The record of the first of k references that claims the path.
-fn first_claimer(
-    commands: &[u8],
-    text: &[u8],
-    begins: &[usize],
-    refs: &[u8],
-    k: usize,
-    path: &[u8],
-) -> Found
-    requires { Records commands.now text.now begins.now × Held (records_of commands.now text.now) refs.now k }
-    ensures { found_number result ≡ claimer path.now (sites_of (records_of commands.now text.now) refs.now k) }
+// The record of the first of the references that claims the path.
+fn first_claimer(book: &CheckedBook<'_>, refs: &[[u8; ROW]], path: &[u8]) -> Option<usize>
+    requires { All (Row (records_in book.now)) refs.now }
+    ensures { result ≡ claimer path.now (sites_of (records_in book.now) refs.now) }
 {
-    let mut i = 0;
-    while i < k {
-        let row = between(refs, 28 * i, 28 * i + 28);
-        if is_claimed(commands, text, begins, row, path) {
-            return Found::At(site_number(row));
+    for row in refs {
+        if is_claimed(book, row, path) {
+            return Some(site_number(row));
         }
-        i += 1;
     }
-    Found::Nothing
+    None
 }
 
 // What a loaded config on the walk comes to: its first reference that claims the path is the solution, else itself.
 fn owned_by(
-    commands: &[u8],
-    text: &[u8],
-    begins: &[usize],
-    row: &[u8],
-    refs: &[u8],
-    k: usize,
+    book: &CheckedBook<'_>,
+    row: &[u8; ROW],
+    refs: &[[u8; ROW]],
     path: &[u8],
-) -> Owned
-    requires { Records commands.now text.now begins.now × (Row (records_of commands.now text.now) row.now × Held (records_of commands.now text.now) refs.now k) }
-    ensures { OwnedAs path.now (site_of (records_of commands.now text.now) row.now) (sites_of (records_of commands.now text.now) refs.now k) result }
+) -> Option<Owner>
+    requires own { Row (records_in book.now) row.now }
+    requires references { All (Row (records_in book.now)) refs.now }
+    ensures { OwnedAs path.now (site_of (records_in book.now) row.now) (sites_of (records_in book.now) refs.now) result }
 {
-    let own = site_number(row);
-    match first_claimer(commands, text, begins, refs, k, path) {
-        Found::At(r) => return Owned::By(own, r),
-        Found::Nothing => {}
+    let found = site_number(row);
+    if let Some(solution) = first_claimer(book, refs, path) {
+        return Some(Owner { found, solution });
     }
-    if is_claimed(commands, text, begins, row, path) {
-        return Owned::By(own, own);
+    if is_claimed(book, row, path) {
+        return Some(Owner {
+            found,
+            solution: found,
+        });
     }
-    Owned::Nobody
+    None
 }
 
 // What the config of a folder, if it has one, comes to.
-fn owned_in(
-    commands: &[u8],
-    text: &[u8],
-    begins: &[usize],
-    starts: &[usize],
-    lens: &[usize],
-    n: usize,
-    folder: &[u8],
-    path: &[u8],
-) -> Owned
-    requires { Records commands.now text.now begins.now × Paths commands.now text.now starts.now lens.now n }
-    ensures { FolderAs (records_of commands.now text.now) path.now (find (push_of folder.now tsconfig_json) (paths_of (records_of commands.now text.now))) result }
+fn owned_in(book: &CheckedBook<'_>, folder: &[u8], path: &[u8]) -> Result<Option<Owner>, Refusal>
+    ensures { FolderAs (records_in book.now) path.now (find (push_of folder.now tsconfig_json) (paths_of (records_in book.now))) result }
 {
-    let found = config_in(text, starts, lens, n, folder);
-    let Found::At(c) = found else {
-        return Owned::Nobody;
+    let Some(c) = book.paths.config_in(folder) else {
+        return Ok(None);
     };
-    let mut row = [255u8; 28];
-    let mut refs = [255u8; 448];
-    match load_record(
-        commands, text, begins, starts, lens, n, c, &mut row, &mut refs,
-    ) {
-        Whole::Refused(k, p) => return Owned::Refused(k, p),
-        Whole::Project(_, k) => return owned_by(commands, text, begins, &row, &refs, k, path),
-    }
+    let mut row = [ABSENT; ROW];
+    let mut refs = [[ABSENT; ROW]; 16];
+    let project = load_record(book, c, &mut row, &mut refs)?;
+    Ok(owned_by(book, &row, &refs[..project.references], path))
 }
 
 // The path as a folder and each folder above it in turn, until one owns the path.
-pub fn find_owner(
-    commands: &[u8],
-    text: &[u8],
-    begins: &[usize],
-    starts: &[usize],
-    lens: &[usize],
-    n: usize,
-    path: &[u8],
-) -> Owned
-    requires { Records commands.now text.now begins.now × Paths commands.now text.now starts.now lens.now n }
-    ensures { owner_of (records_of commands.now text.now) path.now ≡ answered result (given none) }
+pub fn find_owner(book: &CheckedBook<'_>, path: &[u8]) -> Result<Option<Owner>, Refusal>
+    ensures { owner_of (records_in book.now) path.now ≡ answered result (given None) }
 {
     if inside_node_modules(path) {
-        return Owned::Nobody;
+        return Ok(None);
     }
-    let mut left = count_components(path);
-    let mut end = path.len();
-    loop {
-        let folder = upto(path, end);
-        match owned_in(commands, text, begins, starts, lens, n, folder, path) {
-            Owned::Refused(k, p) => return Owned::Refused(k, p),
-            Owned::By(found, solved) => return Owned::By(found, solved),
-            Owned::Nobody => {}
+    let mut folder = path;
+    for _ in 0..count_components(path).max(1) {
+        if let Some(owner) = owned_in(book, folder, path)? {
+            return Ok(Some(owner));
         }
-        if left <= 1 {
-            return Owned::Nobody;
-        }
-        left -= 1;
-        end = parent_len(folder);
+        folder = parent(folder);
     }
+    Ok(None)
 }

@@ -1,9 +1,8 @@
 -- The records by their paths: a turn of the loops over the table, and each way out. Assumes nothing.
 use mathlib.Core.Path.{◌≡◌, refl, sym, ap, ap₂, ◌∙◌}
 use mathlib.Core.List.{List, [], ◌∷◌, ◌++◌, map, append_assoc, append-nil}
-use mathlib.Core.Bool.{Bool, true, false, ◌&&◌, cond, and-false, and-true, true≢false}
-use mathlib.Core.Option
-use mathlib.Core.Option.{Option, some, none}
+use mathlib.Core.Bool.{Bool, true, false, ◌&&◌, cond, and-false, and-true}
+use Rattle.std.specs.Prelude.{Option, Some, None, option_map}
 use Prim.Native.Nat.{ℕ, zero, suc, ◌+◌, ◌-◌, ◌≤◌, ◌<◌}
 use native.Mathlib.Omega.{arith}
 use native.Mathlib.Numerals.{add-one}
@@ -11,13 +10,10 @@ use native.Mathlib.Nat.{add-zero}
 use lib.ListN.{length, get_or, take, drop, length-append, length-take, drop_of_length-le, get_or-append}
 use lib.Seq.{drop-cons, get_or-take, get_or-drop}
 use lib.Dec.{eqb, leb}
-use borrow.Author.Count.{below_more}
 use borrow.Author.Tests.{eq-eqb, ne_eqb, eqb-true, eqb-false, leb-true, leb-false}
 use Rattle.text.specs.Bytes.{Text, slash}
 use Rattle.names.specs.Names.{tsconfig_json, json}
 use Rattle.text.specs.Text.{prefix_of, same_text, some_of}
-use Rattle.text.specs.declared.Found.{Found}
-use Rattle.text.specs.declared.Found.TheVariants.{At, Nothing}
 use Rattle.text.proofs.Scans.{same_length, prefix_differs, prefix_short}
 use Rattle.components.specs.Components.{starts}
 use Rattle.path.specs.Path.{is_some}
@@ -26,7 +22,7 @@ use Rattle.text.proofs.Picks.{by_test}
 use Rattle.book.specs.Record.{record_path_of}
 use Rattle.book.specs.Index.{AcceptedAs}
 use Rattle.book.specs.Find.{find, is_dir, config_path, locate}
-use Rattle.records.specs.Paths.{rows_from, path_table, found_number}
+use Rattle.records.specs.Paths.{rows_from, path_table}
 use Rattle.records.specs.Looks.{Unlike, Passed}
 
 -- Comparing with p and then a tail
@@ -65,39 +61,35 @@ slash_short false = omega arith
 
 -- the tests in their order, where q is as long as p, the slash and the tail
 
-module _ (p tail q : Text) (apart : Bool) (m : ℕ) (e : m ≡ length (slash_if apart)) where
-  whole_length : length (p ++ (slash_if apart ++ tail)) ≡ (length p + m) + length tail
+module _ (p tail q : Text) (apart : Bool) (m : ℕ) (e : m ≡ length p + length (slash_if apart)) where
+  whole_length : length (p ++ (slash_if apart ++ tail)) ≡ m + length tail
   whole_length = omega (arith, e, length-append p (slash_if apart ++ tail), length-append (slash_if apart) tail)
 
-  pub joined_short : length q < length p + m → false ≡ same_text (p ++ (slash_if apart ++ tail)) q
-  joined_short h = sym (same_length (p ++ (slash_if apart ++ tail)) q (λ l. absurd (omega (arith, h, l, whole_length))))
+  pub joined_length : (length q ≡ m + length tail → ⊥) → false ≡ same_text (p ++ (slash_if apart ++ tail)) q
+  joined_length n = sym (same_length (p ++ (slash_if apart ++ tail)) q (λ l. n (sym l ∙ whole_length)))
 
-  module _ (h : length p + m ≤ length q) where
-    pub joined_length : (length q - (length p + m) ≡ length tail → ⊥) → false ≡ same_text (p ++ (slash_if apart ++ tail)) q
-    joined_length n = sym (same_length (p ++ (slash_if apart ++ tail)) q (λ l. n (omega (arith, h, l, whole_length))))
+  module _ (l : length q ≡ m + length tail) (rest : Text) (d : rest ≡ drop m q) (b : Bool) (f : b ≡ prefix_of tail rest) where
+    parts : same_text (p ++ (slash_if apart ++ tail)) q ≡ (prefix_of (p ++ (slash_if apart ++ [])) q && b)
+    parts =
+        let z : length (p ++ (slash_if apart ++ [])) ≡ m = omega (arith, e, length-append p (slash_if apart ++ []), length-append (slash_if apart) []) in
+        let y : p ++ (slash_if apart ++ tail) ≡ (p ++ (slash_if apart ++ [])) ++ tail = ap (λ (s : Text). p ++ (s ++ tail)) (sym (append-nil (slash_if apart))) ∙ sym (append_assoc p (slash_if apart ++ []) tail) in
+        same_whole (p ++ (slash_if apart ++ tail)) q (whole_length ∙ sym l)
+        ∙ ap (λ (w : Text). prefix_of w q) y
+        ∙ prefix_joined (p ++ (slash_if apart ++ [])) tail q
+        ∙ ap (λ (s : Text). prefix_of (p ++ (slash_if apart ++ [])) q && prefix_of tail s) (ap (λ (k : ℕ). drop k q) z ∙ sym d)
+        ∙ ap (λ (x : Bool). prefix_of (p ++ (slash_if apart ++ [])) q && x) (sym f)
 
-    module _ (l : length q - (length p + m) ≡ length tail) (rest : Text) (d : rest ≡ drop (length p + m) q) (b : Bool) (f : b ≡ prefix_of tail rest) where
-      parts : same_text (p ++ (slash_if apart ++ tail)) q ≡ (prefix_of (p ++ (slash_if apart ++ [])) q && b)
-      parts =
-          let z : length (p ++ (slash_if apart ++ [])) ≡ length p + m = omega (arith, e, length-append p (slash_if apart ++ []), length-append (slash_if apart) []) in
-          let y : p ++ (slash_if apart ++ tail) ≡ (p ++ (slash_if apart ++ [])) ++ tail = ap (λ (s : Text). p ++ (s ++ tail)) (sym (append-nil (slash_if apart))) ∙ sym (append_assoc p (slash_if apart ++ []) tail) in
-          same_whole (p ++ (slash_if apart ++ tail)) q (omega (arith, h, l, whole_length))
-          ∙ ap (λ (w : Text). prefix_of w q) y
-          ∙ prefix_joined (p ++ (slash_if apart ++ [])) tail q
-          ∙ ap (λ (s : Text). prefix_of (p ++ (slash_if apart ++ [])) q && prefix_of tail s) (ap (λ (k : ℕ). drop k q) z ∙ sym d)
-          ∙ ap (λ (x : Bool). prefix_of (p ++ (slash_if apart ++ [])) q && x) (sym f)
+    pub joined_other : b ≡ false → b ≡ same_text (p ++ (slash_if apart ++ tail)) q
+    joined_other g = g ∙ sym (parts ∙ ap (λ (x : Bool). prefix_of (p ++ (slash_if apart ++ [])) q && x) g ∙ and-false (prefix_of (p ++ (slash_if apart ++ [])) q))
 
-      pub joined_other : b ≡ false → false ≡ same_text (p ++ (slash_if apart ++ tail)) q
-      joined_other g = sym (parts ∙ ap (λ (x : Bool). prefix_of (p ++ (slash_if apart ++ [])) q && x) g ∙ and-false (prefix_of (p ++ (slash_if apart ++ [])) q))
-
-      pub joined_inside : b ≡ true → (r : Bool) → r ≡ prefix_of (p ++ (slash_if apart ++ [])) q → r ≡ same_text (p ++ (slash_if apart ++ tail)) q
-      joined_inside t r i = i ∙ sym (parts ∙ ap (λ (x : Bool). prefix_of (p ++ (slash_if apart ++ [])) q && x) t ∙ and-true (prefix_of (p ++ (slash_if apart ++ [])) q))
+    pub joined_inside : b ≡ true → (r : Bool) → r ≡ prefix_of (p ++ (slash_if apart ++ [])) q → r ≡ same_text (p ++ (slash_if apart ++ tail)) q
+    joined_inside t r i = i ∙ sym (parts ∙ ap (λ (x : Bool). prefix_of (p ++ (slash_if apart ++ [])) q && x) t ∙ and-true (prefix_of (p ++ (slash_if apart ++ [])) q))
 
 -- a path that begins with p, and then with a slash
 
 module _ (q p : Text) (apart b : Bool) (e : b ≡ prefix_of p q) where
-  pub inside_other : b ≡ false → false ≡ prefix_of (p ++ (slash_if apart ++ [])) q
-  inside_other f = sym (prefix_joined p (slash_if apart ++ []) q ∙ ap (λ (x : Bool). x && prefix_of (slash_if apart ++ []) (drop (length p) q)) (sym e ∙ f))
+  pub inside_other : b ≡ false → b ≡ prefix_of (p ++ (slash_if apart ++ [])) q
+  inside_other f = f ∙ sym (prefix_joined p (slash_if apart ++ []) q ∙ ap (λ (x : Bool). x && prefix_of (slash_if apart ++ []) (drop (length p) q)) (sym e ∙ f))
 
   module _ (y : b ≡ true) where
     left : prefix_of (slash_if apart ++ []) (drop (length p) q) ≡ prefix_of (p ++ (slash_if apart ++ [])) q
@@ -116,30 +108,7 @@ module _ (q p : Text) (apart b : Bool) (e : b ≡ prefix_of p q) where
       unfolding prefix_of
       inside_slash h r i = i ∙ (rw (a, drop-cons q (length p) 0 h) (sym (and-true (eqb (get_or q (length p) 0) slash)))) ∙ left
 
--- Rows whose byte k is another than x, or whose byte m is another than y
-
-pub agrees_not : (a x : ℕ) (b : Bool) → (a ≡ x → ⊥) → false ≡ (eqb a x && b)
-agrees_not a x b n = sym (rw (ne_eqb a x n) refl)
-
-pub agrees_then : (a x : ℕ) (b : Bool) → a ≡ x → b ≡ (eqb a x && b)
-agrees_then a x b e = sym (rw (eq-eqb a x e) refl)
-
-module _ (text : Text) (starts : List ℕ) (n x k y m i : ℕ) where
-  pub unlike_none : i ≤ n → Unlike text starts n x k y m i i
-  unlike_none h = record { onward = omega arith; within = h; other = λ j h l e f. absurd (omega (arith, h, l)) }
-
-  pub unlike_on :
-      (j : ℕ) → Unlike text starts n x k y m i j → j < n → (b : Bool) → b ≡ (eqb (get_or text (get_or starts j 0 + k) 0) x && eqb (get_or text (get_or starts j 0 + m) 0) y) → b ≡ false → Unlike text starts n x k y m i (j + 1)
-  unlike_on j a l b d f =
-      record {
-        onward = omega (arith, a.onward);
-        within = omega (arith, l);
-        other =
-            below_more (λ r. i ≤ r → get_or text (get_or starts r 0 + k) 0 ≡ x → get_or text (get_or starts r 0 + m) 0 ≡ y → ⊥) j a.other
-            (λ h e g. true≢false (sym (sym f ∙ d ∙ (rw (eq-eqb _ x e, eq-eqb _ y g) refl))));
-      }
-
--- begin with no text that has these bytes
+-- Rows whose byte k is another than x, or whose byte m is another than y, begin with no text that has these bytes
 
 module _ (text w : Text) (starts : List ℕ) (n i : ℕ) where
   pub passed_none : i ≤ n → Passed text starts n w i i
@@ -179,28 +148,28 @@ module _ (text p tail : Text) (apart : Bool) (starts : List ℕ) (n i k r : ℕ)
       within : (j : ℕ) → j < length p → j < length (p ++ (slash_if apart ++ tail))
       within j l = omega (arith, l, length-append p (slash_if apart ++ tail))
 
-  module _ (s : ℕ) (e : s ≡ length (slash_if apart)) where
-    in_tail : (j b : ℕ) → b ≡ (length p + s) + j → j < length tail → (b < length (p ++ (slash_if apart ++ tail))) × (get_or (p ++ (slash_if apart ++ tail)) b 0 ≡ get_or tail j 0)
+  module _ (at : ℕ) (e : at ≡ length p + length (slash_if apart)) where
+    in_tail : (j b : ℕ) → b ≡ at + j → j < length tail → (b < length (p ++ (slash_if apart ++ tail))) × (get_or (p ++ (slash_if apart ++ tail)) b 0 ≡ get_or tail j 0)
     in_tail j b d l =
         let z : length p + (length (slash_if apart) + j) ≡ b = omega (arith, e, d) in (
           omega (arith, d, e, l, length-append p (slash_if apart ++ tail), length-append (slash_if apart) tail),
           ap (λ (m : ℕ). get_or (p ++ (slash_if apart ++ tail)) m 0) (sym z) ∙ byte_after p (slash_if apart ++ tail) (length (slash_if apart) + j) ∙ byte_after (slash_if apart) tail j,
         )
 
-    pub passed_tail : length p + s ≤ k → (j : ℕ) → j ≡ k - (length p + s) → j < length tail → (m : ℕ) → m ≡ j - 1 → Unlike text starts n (get_or tail j 0) k (get_or tail m 0) ((length p + s) + m) i r → Passed text starts n (p ++ (slash_if apart ++ tail)) i r
-    passed_tail h j d l m g a =
-        let x = in_tail j k (omega (arith, h, d)) l in
-        let y = in_tail m ((length p + s) + m) (omega arith) (omega (arith, g, l)) in
-        passed_unlike text (p ++ (slash_if apart ++ tail)) starts n i (get_or tail j 0) k (get_or tail m 0) ((length p + s) + m) x.0 x.1 y.0 y.1 r a
+    pub passed_tail : (j : ℕ) → k ≡ at + j → j < length tail → (m : ℕ) → m ≡ j - 1 → Unlike text starts n (get_or tail j 0) k (get_or tail m 0) (at + m) i r → Passed text starts n (p ++ (slash_if apart ++ tail)) i r
+    passed_tail j d l m g a =
+        let x = in_tail j k d l in
+        let y = in_tail m (at + m) (omega arith) (omega (arith, g, l)) in
+        passed_unlike text (p ++ (slash_if apart ++ tail)) starts n i (get_or tail j 0) k (get_or tail m 0) (at + m) x.0 x.1 y.0 y.1 r a
 
 -- The first of the table's rows
 
 -- the number of the first path that is w, where the first path's number is i
 unfoldable pub find_from : ℕ → Text → List Text → Option ℕ
-find_from i w [] = none
-find_from i w (q ∷ qs) = cond (same_text w q) (some i) (find_from (suc i) w qs)
+find_from i w [] = None
+find_from i w (q ∷ qs) = cond (same_text w q) (Some i) (find_from (suc i) w qs)
 
-find_suc : (i : ℕ) (w : Text) (qs : List Text) → Option.map suc (find_from i w qs) ≡ find_from (suc i) w qs
+find_suc : (i : ℕ) (w : Text) (qs : List Text) → option_map suc (find_from i w qs) ≡ find_from (suc i) w qs
 unfolding find_from
 find_suc i w [] = refl
 find_suc i w (q ∷ qs) = by_test (same_text w q) (λ t. rw t refl) (λ f. rw f (find_suc (suc i) w qs))
@@ -208,7 +177,7 @@ find_suc i w (q ∷ qs) = by_test (same_text w q) (λ t. rw t refl) (λ f. rw f 
 find_from_lem : (w : Text) (qs : List Text) → find w qs ≡ find_from 0 w qs
 unfolding find find_from
 find_from_lem w [] = refl
-find_from_lem w (q ∷ qs) = by_test (same_text w q) (λ t. rw t refl) (λ f. rw f (ap (Option.map suc) (find_from_lem w qs) ∙ find_suc 0 w qs))
+find_from_lem w (q ∷ qs) = by_test (same_text w q) (λ t. rw t refl) (λ f. rw f (ap (option_map suc) (find_from_lem w qs) ∙ find_suc 0 w qs))
 
 module _ (text : Text) (starts lens : List ℕ) (n : ℕ) where
   -- the paths from row i on
@@ -254,12 +223,12 @@ module _ (text : Text) (starts lens : List ℕ) (n : ℕ) where
       there : find w (path_table text starts lens n) ≡ find_from c w (rest c)
       there = all ∙ find_passed i c a
 
-      pub find_none : n ≤ c → none ≡ find w (path_table text starts lens n)
+      pub find_none : n ≤ c → None ≡ find w (path_table text starts lens n)
       unfolding find_from
       find_none h = sym (there ∙ ap (find_from c w) (rest_none c h))
 
       module _ (h : c < n) (q : Text) (e : q ≡ take (get_or lens c 0) (drop (get_or starts c 0) text)) (b : Bool) (d : b ≡ same_text w q) where
-        pub find_here : b ≡ true → some c ≡ find w (path_table text starts lens n)
+        pub find_here : b ≡ true → Some c ≡ find w (path_table text starts lens n)
         unfolding find_from
         find_here y = sym (there ∙ ap (find_from c w) (rest_row c h q e) ∙ rw (← d, y) refl)
 
@@ -303,20 +272,20 @@ row_is text starts lens i (suc k) (suc j) h =
     let z : suc i + j ≡ i + suc j = omega arith in
     row_is text starts lens (suc i) k j (omega (arith, h)) ∙ ap (λ (m : ℕ). take (get_or lens m 0) (drop (get_or starts m 0) text)) z
 
-found_in : (w : Text) (qs : List Text) (i j : ℕ) → some j ≡ find_from i w qs → (i ≤ j) × (j < i + length qs)
+found_in : (w : Text) (qs : List Text) (i j : ℕ) → Some j ≡ find_from i w qs → (i ≤ j) × (j < i + length qs)
 unfolding find_from
 found_in w [] i j e = let z : ◌≡◌ {A = ℕ} 0 1 = cc in absurd (omega (arith, z))
 found_in w (q ∷ qs) i j e =
     by_test (same_text w q)
-    (λ t. let k : j ≡ i = (let x : some j ≡ some i = rw t at e in cc) in omega arith)
+    (λ t. let k : j ≡ i = (let x : Some j ≡ Some i = rw t at e in cc) in omega arith)
     (λ f. let ih : (suc i ≤ j) × (j < suc i + length qs) = found_in w qs (suc i) j (rw f at e) in omega arith)
 
 module _ (text : Text) (starts lens : List ℕ) (n : ℕ) where
   -- the number is that of a row
-  pub find_within : (w : Text) (j : ℕ) → some j ≡ find w (path_table text starts lens n) → j < n
+  pub find_within : (w : Text) (j : ℕ) → Some j ≡ find w (path_table text starts lens n) → j < n
   find_within w j e = omega (arith, found_in w (path_table text starts lens n) 0 j (e ∙ find_from_lem w (path_table text starts lens n)), rows_length text starts lens 0 n)
 
-  pub locate_within : (p : Text) (j : ℕ) → some j ≡ locate (path_table text starts lens n) p → j < n
+  pub locate_within : (p : Text) (j : ℕ) → Some j ≡ locate (path_table text starts lens n) p → j < n
   unfolding locate
   locate_within p j e = find_within (config_path (path_table text starts lens n) p) j e
 
@@ -327,11 +296,11 @@ module _ (text : Text) (starts lens : List ℕ) (n : ℕ) where
 -- The asked path
 
 module _ (table : List Text) (p : Text) where
-  pub named_in : (name : Text) (apart : Bool) → joint p ≡ slash_if apart → (r : Found) → found_number r ≡ find (p ++ (slash_if apart ++ name)) table → found_number r ≡ find (push_of p name) table
+  pub named_in : (name : Text) (apart : Bool) → joint p ≡ slash_if apart → (r : Option ℕ) → r ≡ find (p ++ (slash_if apart ++ name)) table → r ≡ find (push_of p name) table
   unfolding push_of
   named_in name apart j r h = h ∙ sym (rw j refl)
 
-  pub whole_path : (r : Found) → found_number r ≡ find (p ++ ([] ++ [])) table → found_number r ≡ find p table
+  pub whole_path : (r : Option ℕ) → r ≡ find (p ++ ([] ++ [])) table → r ≡ find p table
   whole_path r e = e ∙ ap (λ (w : Text). find w table) (append-nil p)
 
   pub dir_relative : (b : Bool) → b ≡ starts slash p → b ≡ false → false ≡ is_dir table p
@@ -342,21 +311,21 @@ module _ (table : List Text) (p : Text) where
   unfolding is_dir push_of
   dir_inside b e y apart j r i = i ∙ (rw (← e, y, j) refl)
 
-  module _ (own : Found) (e : found_number own ≡ find p table) where
-    pub locate_own : (i : ℕ) → own ≡ At i → some i ≡ locate table p
+  module _ (own : Option ℕ) (e : own ≡ find p table) where
+    pub locate_own : (i : ℕ) → own ≡ Some i → Some i ≡ locate table p
     unfolding locate config_path is_some
-    locate_own i f = let g : find p table ≡ some i = sym e ∙ ap found_number f in sym g ∙ sym (ap (λ (o : Option ℕ). find (cond (is_some o) p (cond (is_dir table p) (push_of p tsconfig_json) (p ++ json))) table) g)
+    locate_own i f = let g : find p table ≡ Some i = sym e ∙ f in sym g ∙ sym (ap (λ (o : Option ℕ). find (cond (is_some o) p (cond (is_dir table p) (push_of p tsconfig_json) (p ++ json))) table) g)
 
-    module _ (f : own ≡ Nothing) where
+    module _ (f : own ≡ None) where
       other : locate table p ≡ find (cond (is_dir table p) (push_of p tsconfig_json) (p ++ json)) table
       unfolding locate config_path is_some
-      other = let g : find p table ≡ none = sym e ∙ ap found_number f in ap (λ (o : Option ℕ). find (cond (is_some o) p (cond (is_dir table p) (push_of p tsconfig_json) (p ++ json))) table) g
+      other = let g : find p table ≡ None = sym e ∙ f in ap (λ (o : Option ℕ). find (cond (is_some o) p (cond (is_dir table p) (push_of p tsconfig_json) (p ++ json))) table) g
 
       module _ (b : Bool) (i : b ≡ is_dir table p) where
-        pub locate_dir : b ≡ true → (r : Found) → found_number r ≡ find (push_of p tsconfig_json) table → found_number r ≡ locate table p
+        pub locate_dir : b ≡ true → (r : Option ℕ) → r ≡ find (push_of p tsconfig_json) table → r ≡ locate table p
         locate_dir y r h = h ∙ sym (other ∙ (rw (← i, y) refl))
 
-        pub locate_json : b ≡ false → (r : Found) → found_number r ≡ find (p ++ json) table → found_number r ≡ locate table p
+        pub locate_json : b ≡ false → (r : Option ℕ) → r ≡ find (p ++ json) table → r ≡ locate table p
         locate_json y r h = h ∙ sym (other ∙ (rw (← i, y) refl))
 
 -- The table of an accepted book

@@ -1,9 +1,6 @@
 -- What is read of a checked book: the paths that a table of records says.
 use Rattle.std.specs.Prelude.{ℕ, zero, suc, List, [], ◌∷◌, get_or, take, drop}
-use Rattle.std.proofs.Math.Option.{Option, some, none}
 use Rattle.text.specs.Bytes.{Text}
-use Rattle.text.specs.declared.Found.{Found}
-use Rattle.text.specs.declared.Found.TheVariants.{At, Nothing}
 
 -- the texts that k rows of a table of starts and lengths say, from row i on
 unfoldable pub rows_from : Text → List ℕ → List ℕ → ℕ → ℕ → List Text
@@ -13,8 +10,3 @@ rows_from text starts lens i (suc k) = take (get_or lens i 0) (drop (get_or star
 -- the texts that the first n rows say, in order: "Record numbers run from 0."
 abbrev pub path_table : Text → List ℕ → List ℕ → ℕ → List Text
 path_table text starts lens n = rows_from text starts lens 0 n
-
--- the number of the record that a search found
-abbrev pub found_number : Found → Option ℕ
-found_number (At i) = some i
-found_number Nothing = none

@@ -1,179 +1,109 @@
 // The load of a config with its extends and its references.
 #![tactic(auto)]
 
-ghost use Rattle.std.specs.Prelude.{◌≡◌, ◌+◌, ◌*◌, ◌≤◌, length, get_or};
-ghost use Rattle.book.specs.Command.{reference};
-ghost use Rattle.book.specs.Record.{strings};
-ghost use Rattle.book.specs.Index.{record_at as record_commands};
-ghost use Rattle.tsconfig_resolver.specs.Find.{seen, meant};
+ghost use Rattle.std.specs.Prelude.{◌≡◌, ◌+◌, ◌*◌, ◌≤◌, ◌<◌, length};
+ghost use Rattle.tsconfig_resolver.specs.Find.{seen, meant, record_at};
 ghost use Rattle.tsconfig_resolver.specs.References.{refer as refer_of};
 ghost use Rattle.tsconfig_resolver.specs.Project.{refer_to, references_of};
-ghost use Rattle.rows.specs.Rows.{row_at};
-ghost use Rattle.rows.specs.Records.{records_of};
+ghost use Rattle.rows.specs.Checked.{records_in};
 ghost use Rattle.load.specs.Loads.{state_of, pending, Tells};
-ghost use Rattle.references.specs.References.{Stores, Lists, WholeAs, ReferPre, ReferToPre, ReferencesPre, RecordPre, nobody};
+ghost use Rattle.references.specs.References.{Refers, Lists, WholeAs, ReferPre, nobody};
 
-use book::{REFERENCE, piece, string_of};
-use entries::{EMPTY, Opening, find_meant, open_record, record_dir};
-use items::{Item, next_item};
-use load::{Told, load, walk};
-use merge::store_row;
-use rows::{ABSENT, ROW};
-use text::{Found, upto};
+use book::{Fault, REFERENCE, Refusal};
+use entries::{Opened, find_meant, open_record, record_dir};
+use load::{Loaded, Table, load, walk};
+use rows::{CheckedBook, ROW};
 
-// What is told of a config with its references: a refusal's number and place, or the config's merges and how many references it has.
+// How many records a book has and how many references a record has, at most.
+const RECORDS: usize = 64;
+
+const REFERENCES: usize = 16;
+
+// What is told of a config that is loaded with its references: the config's merges, and how many references it has.
 #[derive(Clone, Copy)]
-pub enum Whole {
-    Refused(u32, usize),
-    Project(usize, usize),
+pub struct Project {
+    pub merges: usize,
+    pub references: usize,
 }
 
-// Loads the reference r of the record c: its own row and its parents, by a chain that starts empty. It is not put into the table.
+// Loads the reference r of the record c, after m merges: its own row and its parents, by a chain that starts empty. It is not put into the
+// table.
 fn refer(
-    commands: &[u8],
-    text: &[u8],
-    begins: &[usize],
-    starts: &[usize],
-    lens: &[usize],
-    n: usize,
-    table: &mut [u8],
+    book: &CheckedBook<'_>,
+    table: &mut Table,
     c: usize,
     r: usize,
-    row: &mut [u8],
     m: usize,
-) -> Told
-    requires { ReferPre commands.now text.now begins.now starts.now lens.now n table.old r row.old m }
-    ensures { Tells (records_of commands.now text.now) nobody r (m + 8 + 8 * pending nobody table.old) (refer_of (seen (records_of commands.now text.now)) c r (state_of (records_of commands.now text.now) table.old m)) row.new table.new result }
+) -> Result<Loaded, Refusal>
+    requires { ReferPre book.now table.old r m }
+    ensures { Tells (records_in book.now) nobody r (m + 8 + 8 * pending nobody table.old) (refer_of (seen (records_in book.now)) c r (state_of (records_in book.now) table.old m)) table.new result }
 {
     if r == c {
-        return Told::Refused(10, c);
+        return Err(Refusal {
+            fault: Fault::RefersToItself,
+            place: c,
+        });
     }
-    let mut codes = [EMPTY; 8];
-    match open_record(commands, text, begins, starts, lens, n, r, &mut codes, row) {
-        Opening::Refused(x) => return Told::Refused(x, r),
-        Opening::Ready(k) => {
-            let entries = upto(&codes, k);
-            let on = [false; 64];
-            return walk(
-                commands, text, begins, starts, lens, n, table, on, r, entries, k, row, m,
-            );
-        }
-    }
+    let Opened { entries, row } = open_record(book, r)?;
+    walk(book, table, [false; RECORDS], r, entries.as_slice(), row, m)
 }
 
-// Loads the reference s of the record c, and puts its row into row j of the references' table.
+// Loads the reference s of the record c, after m merges.
 fn refer_to(
-    commands: &[u8],
-    text: &[u8],
-    begins: &[usize],
-    starts: &[usize],
-    lens: &[usize],
-    n: usize,
-    table: &mut [u8],
+    book: &CheckedBook<'_>,
+    table: &mut Table,
     c: usize,
     s: &[u8],
-    j: usize,
-    refs: &mut [u8],
     m: usize,
-) -> Told
-    requires { ReferToPre commands.now text.now begins.now starts.now lens.now n table.old c s.now j refs.old m }
-    ensures { Stores (records_of commands.now text.now) (m + 8 + 8 * pending nobody table.old) (refer_to (records_of commands.now text.now) c (meant (records_of commands.now text.now) c s.now) (state_of (records_of commands.now text.now) table.old m)) refs.old j refs.new table.new result }
+) -> Result<Loaded, Refusal>
+    requires { ReferPre book.now table.old c m × (length s.now ≤ 512) }
+    ensures { Refers (records_in book.now) (m + 8 + 8 * pending nobody table.old) (refer_to (records_in book.now) c (meant (records_in book.now) c s.now) (state_of (records_in book.now) table.old m)) table.new result }
 {
-    let dir = record_dir(text, starts, lens, c);
-    match find_meant(text, starts, lens, n, dir, s) {
-        Found::Nothing => return Told::Refused(8, c),
-        Found::At(r) => {
-            let mut row = [ABSENT; 28];
-            match refer(
-                commands, text, begins, starts, lens, n, table, c, r, &mut row, m,
-            ) {
-                Told::Refused(a, b) => return Told::Refused(a, b),
-                Told::Done(d) => {
-                    store_row(refs, j, &row);
-                    return Told::Done(d);
-                }
-            }
-        }
-    }
+    let dir = record_dir(book, c);
+    let Some(r) = find_meant(&book.paths, dir, s) else {
+        return Err(Refusal {
+            fault: Fault::NotFound,
+            place: c,
+        });
+    };
+    refer(book, table, c, r, m)
 }
 
-// Loads the references of the record c, in order, each to its row of the references' table. Gives how many, in place of the merges.
+// Loads the references of the record c, in order, each to its row, after m merges. Gives how many.
 fn load_references(
-    commands: &[u8],
-    text: &[u8],
-    begins: &[usize],
-    starts: &[usize],
-    lens: &[usize],
-    n: usize,
-    table: &mut [u8],
+    book: &CheckedBook<'_>,
+    table: &mut Table,
     c: usize,
-    refs: &mut [u8],
+    refs: &mut [[u8; ROW]; REFERENCES],
     m: usize,
-) -> Told
-    requires { ReferencesPre commands.now text.now begins.now starts.now lens.now n table.old c refs.old m }
-    ensures { Lists (records_of commands.now text.now) (references_of (records_of commands.now text.now) c (strings text.now reference (record_commands commands.now (get_or begins.now c 0))) (state_of (records_of commands.now text.now) table.old m)) refs.new result }
+) -> Result<usize, Refusal>
+    requires { ReferPre book.now table.old c m × (m + 8 * pending nobody table.old ≤ 512) }
+    ensures { Lists (records_in book.now) (references_of (records_in book.now) c (record_at (records_in book.now) c).references (state_of (records_in book.now) table.old m)) refs.new result }
 {
-    let mut at = begins[c];
-    let mut j = 0;
-    let mut d = m;
-    loop {
-        match next_item(commands, at, REFERENCE) {
-            Item::Missing => return Told::Done(j),
-            Item::At(x, next) => {
-                let s = string_of(text, x);
-                match refer_to(
-                    commands, text, begins, starts, lens, n, table, c, s, j, refs, d,
-                ) {
-                    Told::Refused(a, b) => return Told::Refused(a, b),
-                    Told::Done(e) => {
-                        d = e;
-                        j += 1;
-                        at = next;
-                    }
-                }
-            }
-        }
+    let mut count = 0;
+    let mut made = m;
+    for s in book.record_at(c).strings(REFERENCE) {
+        let Loaded { row, merges } = refer_to(book, table, c, s, made)?;
+        refs[count] = row;
+        made = merges;
+        count += 1;
     }
+    Ok(count)
 }
 
-// Row c of a table.
-fn copy_row(table: &[u8], c: usize, row: &mut [u8])
-    requires { (length row.old ≡ 28) × (28 * c + 28 ≤ length table.now) }
-    ensures { row.new ≡ row_at table.now c }
-{
-    let own = piece(table, ROW * c, ROW);
-    store_row(row, 0, own);
-}
-
-// Loads the record c as the asked config: its extends, to its row, and its references, each to its row of their table.
+// Loads the record c as the asked config: its extends, to its row, and its references, each to its row.
 pub fn load_record(
-    commands: &[u8],
-    text: &[u8],
-    begins: &[usize],
-    starts: &[usize],
-    lens: &[usize],
-    n: usize,
+    book: &CheckedBook<'_>,
     c: usize,
-    row: &mut [u8],
-    refs: &mut [u8],
-) -> Whole
-    requires { RecordPre commands.now text.now begins.now starts.now lens.now n c row.old refs.old }
-    ensures { WholeAs (records_of commands.now text.now) c row.new refs.new result }
+    row: &mut [u8; ROW],
+    refs: &mut [[u8; ROW]; REFERENCES],
+) -> Result<Project, Refusal>
+    requires { c < book.now.paths.count }
+    ensures { WholeAs (records_in book.now) c row.new refs.new result }
 {
-    let mut table = [ABSENT; 1792];
-    let on = [false; 64];
-    match load(
-        commands, text, begins, starts, lens, n, &mut table, on, c, 0,
-    ) {
-        Told::Refused(a, b) => return Whole::Refused(a, b),
-        Told::Done(m) => {
-            copy_row(&table, c, row);
-            match load_references(
-                commands, text, begins, starts, lens, n, &mut table, c, refs, m,
-            ) {
-                Told::Refused(a, b) => return Whole::Refused(a, b),
-                Told::Done(k) => return Whole::Project(m, k),
-            }
-        }
-    }
+    let mut table = [None; RECORDS];
+    let Loaded { row: own, merges } = load(book, &mut table, [false; RECORDS], c, 0)?;
+    *row = own;
+    let references = load_references(book, &mut table, c, refs, merges)?;
+    Ok(Project { merges, references })
 }

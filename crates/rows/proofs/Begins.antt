@@ -5,7 +5,7 @@ use Prim.Native.Nat.{ℕ, ◌<◌}
 use native.Mathlib.Omega.{arith}
 use lib.ListN.{length, get_or}
 use borrow.Author.Tests.{eq-eqb, ne_eqb}
-use Rattle.text.specs.declared.Found.TheVariants.{At, Nothing}
+use Rattle.std.specs.Prelude.{Some, None}
 use Rattle.rows.specs.Rows.{absent, begin_at}
 use Rattle.rows.proofs.Lists.{get_d_any}
 
@@ -13,7 +13,7 @@ module _ (begins row : List ℕ) (k : ℕ) (h : k < length row) where
   same : get_or row k 0 ≡ get_or row k absent
   same = get_d_any row k 0 absent h
 
-  pub begin_none : get_or row k 0 ≡ 255 → Nothing ≡ begin_at begins row k
+  pub begin_none : get_or row k 0 ≡ 255 → None ≡ begin_at begins row k
   unfolding begin_at
   begin_none e = sym (rw (eq-eqb (get_or row k absent) absent (sym same ∙ e)) refl)
 
@@ -21,6 +21,6 @@ module _ (begins row : List ℕ) (k : ℕ) (h : k < length row) where
     pub begin_there : ((get_or row k 255 ≡ 255 → ⊥) → get_or row k 255 < length begins) → i < length begins
     begin_there f = let g = f (λ e. n (same ∙ e)) in omega (arith, g, w, same)
 
-    pub begin_some : At (get_or begins i 0) ≡ begin_at begins row k
+    pub begin_some : Some (get_or begins i 0) ≡ begin_at begins row k
     unfolding begin_at
-    begin_some = ap (λ (j : ℕ). At (get_or begins j 0)) (w ∙ same) ∙ sym (rw (ne_eqb (get_or row k absent) absent (λ e. n (same ∙ e))) refl)
+    begin_some = ap (λ (j : ℕ). Some (get_or begins j 0)) (w ∙ same) ∙ sym (rw (ne_eqb (get_or row k absent) absent (λ e. n (same ∙ e))) refl)

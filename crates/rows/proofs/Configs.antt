@@ -2,8 +2,7 @@
 use mathlib.Core.Path.{◌≡◌, refl, sym, ap, ap₂, ◌∙◌}
 use mathlib.Core.List.{List}
 use mathlib.Core.Bool.{Bool, true, false, cond, true≢false}
-use mathlib.Core.Option
-use mathlib.Core.Option.{Option, some, none, map}
+use Rattle.std.specs.Prelude.{Option, Some, None, option_map, unwrap_or}
 use Prim.Native.Nat.{ℕ, ◌≤◌, ◌<◌}
 use native.Mathlib.Omega.{arith}
 use lib.Dec.{eqb, ltb}
@@ -28,15 +27,15 @@ use Rattle.rows.specs.Merge.{nearer, base_by, merged_to, merged_row}
 use Rattle.rows.proofs.Names.{said_names, said_none, slot_split}
 use Rattle.rows.proofs.Merge.{merged_length, merged_above, merged_below}
 
-some_map : {A B : Type 0} (g : A → B) (o : Option A) → is_some (map g o) ≡ is_some o
+some_map : {A B : Type 0} (g : A → B) (o : Option A) → is_some (option_map g o) ≡ is_some o
 unfolding is_some
-some_map g none = refl
-some_map g (some a) = refl
+some_map g None = refl
+some_map g (Some a) = refl
 
-none_is : {A : Type 0} (o : Option A) → is_some o ≡ false → o ≡ none
+none_is : {A : Type 0} (o : Option A) → is_some o ≡ false → o ≡ None
 unfolding is_some
-none_is none e = refl
-none_is (some a) e = absurd (true≢false e)
+none_is None e = refl
+none_is (Some a) e = absurd (true≢false e)
 
 -- Where there is no record
 
@@ -45,10 +44,10 @@ module _ (rs : List Parsed) (few : length rs ≤ 64) where
   no_record : record_at rs absent ≡ blank
   no_record = get_or-eq_default rs blank (omega (arith, few))
 
-  no_value : (f : Field) → ((seen rs).own absent).named f ≡ none
-  no_value f = ap (λ (p : Parsed). map (λ v. record { value = v; by = absent }) (p.says f)) no_record
+  no_value : (f : Field) → ((seen rs).own absent).named f ≡ None
+  no_value f = ap (λ (p : Parsed). option_map (λ v. record { value = v; by = absent }) (p.says f)) no_record
 
-  none_named : (f : Field) (c : ℕ) → c ≡ absent → ((seen rs).own c).named f ≡ none
+  none_named : (f : Field) (c : ℕ) → c ≡ absent → ((seen rs).own c).named f ≡ None
   none_named f c e = ap (λ (k : ℕ). ((seen rs).own k).named f) e ∙ no_value f
 
 -- a record that says something is there
@@ -82,7 +81,7 @@ module _ (rs : List Parsed) (few : length rs ≤ 64) (text : Text) (c : ℕ) (h 
       (λ y. ap (λ (k : ℕ). ((seen rs).own k).named f) (own_supplier text c r row sound o f ∙ ap (λ (b : Bool). cond b c absent) y))
       (λ y.
       none_named rs few f (supplier row f) (own_supplier text c r row sound o f ∙ ap (λ (b : Bool). cond b c absent) y)
-      ∙ sym (ap (map (λ v. record { value = v; by = c })) (none_is ((record_at rs c).says f) (says_some f ∙ y))))
+      ∙ sym (ap (option_map (λ v. record { value = v; by = c })) (none_is ((record_at rs c).says f) (says_some f ∙ y))))
 
   own_config_of : config_of rs row ≡ (seen rs).own c
   unfolding config_of
@@ -117,7 +116,7 @@ own_number c r row o = o.own
 base_rule :
     {X : Type 0} (g : ℕ → X) (r s t : Bool) (x y : ℕ) →
     g (cond r (cond s (cond t y x) y) x)
-    ≡ Option.get_or (cond r none (some (g x)) or_else cond s none (some (g y))) (Option.get_or (cond t none (some (g x))) (g y))
+    ≡ unwrap_or (cond r None (Some (g x)) or_else cond s None (Some (g y))) (unwrap_or (cond t None (Some (g x))) (g y))
 base_rule g false s t x y = refl
 base_rule g true false t x y = refl
 base_rule g true true false x y = refl
@@ -132,14 +131,14 @@ module _ (rs : List Parsed) (few : length rs ≤ 64) where
         (λ y. ap is_some (none_named rs few f (supplier row f) (eqb-true (supplier row f) absent y)) ∙ sym (ap (λ (b : Bool). cond b false true) y))
         (λ y. some_map (λ v. record { value = v; by = supplier row f }) ((record_at rs (supplier row f)).says f) ∙ w.named f (eqb-false (supplier row f) absent y) ∙ sym (ap (λ (b : Bool). cond b false true) y))
 
-    map_if : {A B : Type 0} (x : B) (b : Bool) (o : Option A) → is_some o ≡ cond b false true → map (λ v. x) o ≡ cond b none (some x)
+    map_if : {A B : Type 0} (x : B) (b : Bool) (o : Option A) → is_some o ≡ cond b false true → option_map (λ v. x) o ≡ cond b None (Some x)
     unfolding is_some
-    map_if x true none e = refl
-    map_if x false none e = absurd (true≢false (sym e))
-    map_if x true (some a) e = absurd (true≢false e)
-    map_if x false (some a) e = refl
+    map_if x true None e = refl
+    map_if x false None e = absurd (true≢false (sym e))
+    map_if x true (Some a) e = absurd (true≢false e)
+    map_if x false (Some a) e = refl
 
-    base_if_lem : (f : Field) → base_if f (config_of rs row) ≡ cond (eqb (supplier row f) absent) none (some ((seen rs).own (get_or row base_place absent)).base)
+    base_if_lem : (f : Field) → base_if f (config_of rs row) ≡ cond (eqb (supplier row f) absent) None (Some ((seen rs).own (get_or row base_place absent)).base)
     unfolding config_of
     base_if_lem f = map_if ((seen rs).own (get_or row base_place absent)).base (eqb (supplier row f) absent) ((config_of rs row).named f) (named_some f)
 
@@ -177,8 +176,8 @@ module _ (rs : List Parsed) (few : length rs ≤ 64) where
 
     first_is : {A : Type 0} (o p : Option A) → is_some o ≡ true → o ≡ o or_else p
     unfolding is_some
-    first_is none p e = absurd (true≢false (sym e))
-    first_is (some x) p e = refl
+    first_is None p e = absurd (true≢false (sym e))
+    first_is (Some x) p e = refl
 
     merged_named : (f : Field) → (config_of rs (merged_row a b)).named f ≡ (config_of rs a).named f or_else (config_of rs b).named f
     unfolding config_of
@@ -196,7 +195,7 @@ module _ (rs : List Parsed) (few : length rs ≤ 64) where
     merged_based =
         ap (λ (k : ℕ). ((seen rs).own k).base) merged_base
         ∙ base_rule (λ k. ((seen rs).own k).base) (eqb (get_or a 3 absent) absent) (eqb (get_or b 3 absent) absent) (eqb (get_or a 4 absent) absent) (get_or a base_place absent) (get_or b base_place absent)
-        ∙ sym (ap₂ Option.get_or (ap₂ (λ o p. o or_else p) (base_if_lem a v base_url) (base_if_lem b w base_url)) (ap (λ o. Option.get_or o ((seen rs).own (get_or b base_place absent)).base) (base_if_lem a v paths)))
+        ∙ sym (ap₂ unwrap_or (ap₂ (λ o p. o or_else p) (base_if_lem a v base_url) (base_if_lem b w base_url)) (ap (λ o. unwrap_or o ((seen rs).own (get_or b base_place absent)).base) (base_if_lem a v paths)))
 
     -- merged rows say the merged config
     pub merge_config : config_of rs (merged_row a b) ≡ merge (config_of rs a) (config_of rs b)

@@ -2,15 +2,13 @@
 use mathlib.Core.Path.{◌≡◌, refl, sym, ap, ap₂, subst, ◌∙◌}
 use mathlib.Core.List.{List}
 use mathlib.Core.Bool.{Bool, true, false, true≢false}
-use mathlib.Core.Option.{Option, some, none, map}
+use Rattle.std.specs.Prelude.{Option, Some, None, option_map}
 use Prim.Native.Nat.{ℕ, zero, suc, ◌+◌, ◌-◌, ◌<◌}
 use native.Mathlib.Omega.{arith}
 use lib.Dec.{eqb, ltb}
 use lib.ListN.{length, get_or, get_or-eq_default}
 use borrow.Author.Tests.{eqb-true, eqb-false, eq-eqb, ne_eqb, lt-ltb, ltb-true, ltb-false}
 use Rattle.text.specs.Bytes.{Text}
-use Rattle.text.specs.declared.Found.{Found}
-use Rattle.text.specs.declared.Found.TheVariants.{At, Nothing}
 use Rattle.ends.specs.Ends.{parent_of}
 use Rattle.text.proofs.Picks.{by_test}
 use Rattle.book.specs.Command as command
@@ -22,6 +20,9 @@ use Rattle.tsconfig.specs.Parsed.{Value, Parsed, parsed, parse, said, placed_val
 use Rattle.tsconfig.specs.Build.{built, built_value, substituted}
 use Rattle.tsconfig_resolver.specs.Find.{Supplied, record_at, path_at, blank}
 use Rattle.rows.specs.Rows.{absent, slot, base_place, own_place, supplier, number_of, config_of, site_of, Row, begin_at}
+use Rattle.text.specs.Text.{each_of}
+use Rattle.record.specs.Good.{good_command, read}
+use Rattle.record.proofs.Good.{good_each}
 use Rattle.rows.specs.Records.{records_of, dir_of, said_at, Records}
 use Rattle.rows.proofs.Configs.{there}
 
@@ -81,37 +82,37 @@ placed_plain dir declaration_dir e v = absurd (true≢false (sym e))
 placed_plain dir (flag id) e v = refl
 placed_plain dir (text id) e v = refl
 
-map_same : {A : Type 0} (g : A → A) → ((a : A) → g a ≡ a) → (o : Option A) → map g o ≡ o
-map_same g h none = refl
-map_same g h (some a) = ap some (h a)
+map_same : {A : Type 0} (g : A → A) → ((a : A) → g a ≡ a) → (o : Option A) → option_map g o ≡ o
+map_same g h None = refl
+map_same g h (Some a) = ap Some (h a)
 
-pub map_plain : (dir : Text) (f : Field) → plain f ≡ true → (o : Option (Value f)) → map (placed_value dir f) o ≡ o
+pub map_plain : (dir : Text) (f : Field) → plain f ≡ true → (o : Option (Value f)) → option_map (placed_value dir f) o ≡ o
 map_plain dir f e o = map_same (placed_value dir f) (placed_plain dir f e) o
 
-value_map : {A : Type 0} (c : ℕ) (o : Option A) → map (λ (v : Supplied A). v.value) (map (λ v. record { value = v; by = c }) o) ≡ o
-value_map c none = refl
-value_map c (some a) = refl
+value_map : {A : Type 0} (c : ℕ) (o : Option A) → option_map (λ (v : Supplied A). v.value) (option_map (λ v. record { value = v; by = c }) o) ≡ o
+value_map c None = refl
+value_map c (Some a) = refl
 
-no_at : {X : Type 0} {n : ℕ} → At n ≡ Nothing → X
+no_at : {X : Type 0} {n : ℕ} → Some n ≡ None → X
 no_at e = let z : ◌≡◌ {A = ℕ} 0 1 = cc in absurd (omega (arith, z))
 
 -- where the record at a place begins
 module _ (begins row : List ℕ) (k : ℕ) where
-  pub begin_is : (get_or row k absent ≡ absent → ⊥) → begin_at begins row k ≡ At (get_or begins (get_or row k absent) 0)
+  pub begin_is : (get_or row k absent ≡ absent → ⊥) → begin_at begins row k ≡ Some (get_or begins (get_or row k absent) 0)
   unfolding begin_at
   begin_is n = rw (ne_eqb (get_or row k absent) absent n) refl
 
-  pub begin_not : get_or row k absent ≡ absent → begin_at begins row k ≡ Nothing
+  pub begin_not : get_or row k absent ≡ absent → begin_at begins row k ≡ None
   unfolding begin_at
   begin_not e = rw (eq-eqb (get_or row k absent) absent e) refl
 
-  pub found_place : (rec : ℕ) → At rec ≡ begin_at begins row k → (get_or row k absent ≡ absent → ⊥)
+  pub found_place : (rec : ℕ) → Some rec ≡ begin_at begins row k → (get_or row k absent ≡ absent → ⊥)
   found_place rec e z = no_at (e ∙ begin_not z)
 
-  pub found_rec : (rec : ℕ) → At rec ≡ begin_at begins row k → rec ≡ get_or begins (get_or row k absent) 0
-  found_rec rec e = let z : At rec ≡ At (get_or begins (get_or row k absent) 0) = e ∙ begin_is (found_place rec e) in cc
+  pub found_rec : (rec : ℕ) → Some rec ≡ begin_at begins row k → rec ≡ get_or begins (get_or row k absent) 0
+  found_rec rec e = let z : Some rec ≡ Some (get_or begins (get_or row k absent) 0) = e ∙ begin_is (found_place rec e) in cc
 
-  pub found_none : Nothing ≡ begin_at begins row k → get_or row k absent ≡ absent
+  pub found_none : None ≡ begin_at begins row k → get_or row k absent ≡ absent
   found_none e =
       by_test (eqb (get_or row k absent) absent) (λ y. eqb-true (get_or row k absent) absent y)
       (λ y. no_at (sym (e ∙ begin_is (eqb-false (get_or row k absent) absent y))))
@@ -131,13 +132,22 @@ module _ (commands text : Text) (begins : List ℕ) (b : Records commands text b
   unfolding parsed parse
   record_references = ap (λ (p : Parsed). p.references) (b.reads c h)
 
-  pub record_says : (f : Field) → (record_at (records_of commands text) c).says f ≡ map (placed_value (dir_of text (index.record_at commands (get_or begins c 0))) f) (said text (index.record_at commands (get_or begins c 0)) f)
+  pub record_says : (f : Field) → (record_at (records_of commands text) c).says f ≡ option_map (placed_value (dir_of text (index.record_at commands (get_or begins c 0))) f) (said text (index.record_at commands (get_or begins c 0)) f)
   unfolding parsed parse
   record_says f = ap (λ (p : Parsed). p.says f) (b.reads c h)
 
   pub record_base : (record_at (records_of commands text) c).base ≡ own_base (dir_of text (index.record_at commands (get_or begins c 0))) (single text command.base_url (index.record_at commands (get_or begins c 0)))
   unfolding parsed parse said
   record_base = ap (λ (p : Parsed). p.base) (b.reads c h)
+
+module _ (commands text : Text) (begins : List ℕ) (b : Records commands text begins) (row : List ℕ) (k rec : ℕ) where
+  -- what stands at a place of a row, where it is the number of a record, is good
+  pub place_good :
+      ((get_or row k absent ≡ absent → ⊥) → get_or row k absent < length (records_of commands text)) → Some rec ≡ begin_at begins row k →
+      each_of (good_command text) (read commands rec) ≡ true
+  place_good h e =
+      let z : rec ≡ get_or begins (get_or row k absent) 0 = found_rec begins row k rec e in
+      good_each text (read commands rec) (subst (λ j. Sound text (read commands j)) (sym z) (b.sound (get_or row k absent) (h (found_place begins row k rec e)))).each
 
 -- A row of the book's records
 
@@ -146,7 +156,7 @@ module _ (commands text : Text) (begins : List ℕ) (b : Records commands text b
   pub supplier_there : (f : Field) → (supplier row f ≡ absent → ⊥) → supplier row f < length (records_of commands text)
   supplier_there f n = there (records_of commands text) (supplier row f) f (w.named f n)
 
-  place_there : (k : ℕ) → k < 28 → (get_or row k absent ≡ absent → ⊥) → get_or row k absent < length (records_of commands text)
+  pub place_there : (k : ℕ) → k < 28 → (get_or row k absent ≡ absent → ⊥) → get_or row k absent < length (records_of commands text)
   place_there k h n =
       by_test (ltb k 26)
       (λ y. field_of k (ltb-true k 26 y) (λ f e.
@@ -166,12 +176,12 @@ module _ (commands text : Text) (begins : List ℕ) (b : Records commands text b
   row_begin k h = (omega (arith, h, w.long), λ n. let z = place_there k h n in omega (arith, z, b.there))
 
   -- what stands at a place is a record of the book
-  pub place_sound : (k rec : ℕ) → k < 28 → At rec ≡ begin_at begins row k → Sound text (index.record_at commands rec)
+  pub place_sound : (k rec : ℕ) → k < 28 → Some rec ≡ begin_at begins row k → Sound text (index.record_at commands rec)
   place_sound k rec h e =
       let z : rec ≡ get_or begins (get_or row k absent) 0 = found_rec begins row k rec e in
       subst (λ j. Sound text (index.record_at commands j)) (sym z) (b.sound (get_or row k absent) (place_there k h (found_place begins row k rec e)))
 
-  pub field_sound : (f : Field) (rec : ℕ) → At rec ≡ begin_at begins row (slot f) → Sound text (index.record_at commands rec)
+  pub field_sound : (f : Field) (rec : ℕ) → Some rec ≡ begin_at begins row (slot f) → Sound text (index.record_at commands rec)
   field_sound f rec e =
       let z : rec ≡ get_or begins (supplier row f) 0 = found_rec begins row (slot f) rec e in
       subst (λ j. Sound text (index.record_at commands j)) (sym z) (b.sound (supplier row f) (supplier_there f (found_place begins row (slot f) rec e)))
@@ -179,35 +189,35 @@ module _ (commands text : Text) (begins : List ℕ) (b : Records commands text b
   -- The fields as merged
 
   module _ (f : Field) where
-    named_says : map (λ v. v.value) ((config_of (records_of commands text) row).named f) ≡ (record_at (records_of commands text) (supplier row f)).says f
+    named_says : option_map (λ v. v.value) ((config_of (records_of commands text) row).named f) ≡ (record_at (records_of commands text) (supplier row f)).says f
     unfolding config_of
     named_says = value_map (supplier row f) ((record_at (records_of commands text) (supplier row f)).says f)
 
-    -- there is none
-    pub field_none : Nothing ≡ begin_at begins row (slot f) → map (λ v. v.value) ((config_of (records_of commands text) row).named f) ≡ none
+    -- there is None
+    pub field_none : None ≡ begin_at begins row (slot f) → option_map (λ v. v.value) ((config_of (records_of commands text) row).named f) ≡ None
     field_none e =
         let z : supplier row f ≡ absent = found_none begins row (slot f) e in
         named_says ∙ ap (λ (p : Parsed). p.says f) (get_or-eq_default (records_of commands text) blank (omega (arith, z, b.few)))
 
     -- what the supplier says
-    pub field_at : (rec : ℕ) → At rec ≡ begin_at begins row (slot f) → map (λ v. v.value) ((config_of (records_of commands text) row).named f) ≡ map (placed_value (dir_of text (index.record_at commands rec)) f) (said text (index.record_at commands rec) f)
+    pub field_at : (rec : ℕ) → Some rec ≡ begin_at begins row (slot f) → option_map (λ v. v.value) ((config_of (records_of commands text) row).named f) ≡ option_map (placed_value (dir_of text (index.record_at commands rec)) f) (said text (index.record_at commands rec) f)
     field_at rec e =
         named_says ∙ record_says commands text begins b (supplier row f) (supplier_there f (found_place begins row (slot f) rec e)) f
-        ∙ ap (λ (j : ℕ). map (placed_value (dir_of text (index.record_at commands j)) f) (said text (index.record_at commands j) f)) (sym (found_rec begins row (slot f) rec e))
+        ∙ ap (λ (j : ℕ). option_map (placed_value (dir_of text (index.record_at commands j)) f) (said text (index.record_at commands j) f)) (sym (found_rec begins row (slot f) rec e))
 
-    pub field_value : map (λ v. v.value) ((config_of (records_of commands text) row).named f) ≡ map (placed_value (dir_of text (index.record_at commands (get_or begins (supplier row f) 0))) f) (said_at commands text (begin_at begins row (slot f)) f)
+    pub field_value : option_map (λ v. v.value) ((config_of (records_of commands text) row).named f) ≡ option_map (placed_value (dir_of text (index.record_at commands (get_or begins (supplier row f) 0))) f) (said_at commands text (begin_at begins row (slot f)) f)
     unfolding said_at
     field_value =
         by_test (eqb (supplier row f) absent)
         (λ y.
-        let z : begin_at begins row (slot f) ≡ Nothing = begin_not begins row (slot f) (eqb-true (supplier row f) absent y) in
-        field_none (sym z) ∙ sym (ap (λ (x : Found). map (placed_value (dir_of text (index.record_at commands (get_or begins (supplier row f) 0))) f) (said_at commands text x f)) z))
+        let z : begin_at begins row (slot f) ≡ None = begin_not begins row (slot f) (eqb-true (supplier row f) absent y) in
+        field_none (sym z) ∙ sym (ap (λ (x : Option ℕ). option_map (placed_value (dir_of text (index.record_at commands (get_or begins (supplier row f) 0))) f) (said_at commands text x f)) z))
         (λ y.
-        let z : begin_at begins row (slot f) ≡ At (get_or begins (supplier row f) 0) = begin_is begins row (slot f) (eqb-false (supplier row f) absent y) in
-        field_at (get_or begins (supplier row f) 0) (sym z) ∙ sym (ap (λ (x : Found). map (placed_value (dir_of text (index.record_at commands (get_or begins (supplier row f) 0))) f) (said_at commands text x f)) z))
+        let z : begin_at begins row (slot f) ≡ Some (get_or begins (supplier row f) 0) = begin_is begins row (slot f) (eqb-false (supplier row f) absent y) in
+        field_at (get_or begins (supplier row f) 0) (sym z) ∙ sym (ap (λ (x : Option ℕ). option_map (placed_value (dir_of text (index.record_at commands (get_or begins (supplier row f) 0))) f) (said_at commands text x f)) z))
 
     -- of a field that parsing leaves as it is
-    pub field_plain : plain f ≡ true → map (λ v. v.value) ((config_of (records_of commands text) row).named f) ≡ said_at commands text (begin_at begins row (slot f)) f
+    pub field_plain : plain f ≡ true → option_map (λ v. v.value) ((config_of (records_of commands text) row).named f) ≡ said_at commands text (begin_at begins row (slot f)) f
     field_plain e = field_value ∙ map_plain (dir_of text (index.record_at commands (get_or begins (supplier row f) 0))) f e (said_at commands text (begin_at begins row (slot f)) f)
 
   -- The built config
@@ -220,10 +230,10 @@ module _ (commands text : Text) (begins : List ℕ) (b : Records commands text b
   unfolding site_of
   site_path = site_dir
 
-  pub own_begin : begin_at begins row own_place ≡ At (get_or begins (number_of row) 0)
+  pub own_begin : begin_at begins row own_place ≡ Some (get_or begins (number_of row) 0)
   own_begin = begin_is begins row own_place (λ e. omega (arith, e, w.own, b.few))
 
-  pub base_begin : begin_at begins row base_place ≡ At (get_or begins (get_or row base_place absent) 0)
+  pub base_begin : begin_at begins row base_place ≡ Some (get_or begins (get_or row base_place absent) 0)
   base_begin = begin_is begins row base_place (λ e. omega (arith, e, w.base, b.few))
 
   pub own_sound : Sound text (index.record_at commands (get_or begins (number_of row) 0))
@@ -243,16 +253,16 @@ module _ (commands text : Text) (begins : List ℕ) (b : Records commands text b
 
     module _ (base : Text) (s : base ≡ (site_of (records_of commands text) row).config.base) (f : Field) where
       -- a field, built from what was merged
-      pub site_field : (site_of (records_of commands text) row).config.named f ≡ map (built_value dir base f) (map (λ v. v.value) ((config_of (records_of commands text) row).named f))
+      pub site_field : (site_of (records_of commands text) row).config.named f ≡ option_map (built_value dir base f) (option_map (λ v. v.value) ((config_of (records_of commands text) row).named f))
       unfolding site_of built mapped
-      site_field = ap₂ (λ (x y : Text). map (built_value x y f) (map (λ v. v.value) ((config_of (records_of commands text) row).named f))) same_dir (sym s)
+      site_field = ap₂ (λ (x y : Text). option_map (built_value x y f) (option_map (λ v. v.value) ((config_of (records_of commands text) row).named f))) same_dir (sym s)
 
-      pub site_none : Nothing ≡ begin_at begins row (slot f) → (site_of (records_of commands text) row).config.named f ≡ none
-      site_none e = site_field ∙ ap (map (built_value dir base f)) (field_none f e)
+      pub site_none : None ≡ begin_at begins row (slot f) → (site_of (records_of commands text) row).config.named f ≡ None
+      site_none e = site_field ∙ ap (option_map (built_value dir base f)) (field_none f e)
 
-      pub site_at_lem : (rec : ℕ) → At rec ≡ begin_at begins row (slot f) → (site_of (records_of commands text) row).config.named f ≡ map (built_value dir base f) (map (placed_value (dir_of text (index.record_at commands rec)) f) (said text (index.record_at commands rec) f))
-      site_at_lem rec e = site_field ∙ ap (map (built_value dir base f)) (field_at f rec e)
+      pub site_at_lem : (rec : ℕ) → Some rec ≡ begin_at begins row (slot f) → (site_of (records_of commands text) row).config.named f ≡ option_map (built_value dir base f) (option_map (placed_value (dir_of text (index.record_at commands rec)) f) (said text (index.record_at commands rec) f))
+      site_at_lem rec e = site_field ∙ ap (option_map (built_value dir base f)) (field_at f rec e)
 
       -- of a field that parsing leaves as it is
-      pub site_plain : plain f ≡ true → (rec : ℕ) → At rec ≡ begin_at begins row (slot f) → (site_of (records_of commands text) row).config.named f ≡ map (built_value dir base f) (said text (index.record_at commands rec) f)
-      site_plain e rec a = site_at_lem rec a ∙ ap (map (built_value dir base f)) (map_plain (dir_of text (index.record_at commands rec)) f e (said text (index.record_at commands rec) f))
+      pub site_plain : plain f ≡ true → (rec : ℕ) → Some rec ≡ begin_at begins row (slot f) → (site_of (records_of commands text) row).config.named f ≡ option_map (built_value dir base f) (said text (index.record_at commands rec) f)
+      site_plain e rec a = site_at_lem rec a ∙ ap (option_map (built_value dir base f)) (map_plain (dir_of text (index.record_at commands rec)) f e (said text (index.record_at commands rec) f))

@@ -6,6 +6,5 @@ pub mod Merge
 pub mod Begins
 pub mod Names
 pub mod Configs
-pub mod Tables
 pub mod Fields
 pub mod Books

@@ -7,41 +7,11 @@ use native.Mathlib.Numerals.{add-one}
 use lib.Dec.{eqb}
 use lib.ListN.{length, get_or, set, length-set}
 use lib.Seq.{get_or-set_same, get_or-set_other}
-use borrow.Author.Tests.{eqb-true, eqb-false, eq-eqb, ne_eqb}
+use borrow.Author.Tests.{eqb-true, eqb-false}
 use Rattle.text.proofs.Picks.{by_test}
 use Rattle.rows.specs.Rows.{absent}
 use Rattle.rows.specs.Merge.{nearer, base_by, merged_to, merged_row}
 use Rattle.rows.proofs.Lists.{get_d_any}
-
--- The choices
-
-module _ (x y : ℕ) where
-  pub nearer_none : x ≡ 255 → y ≡ nearer x y
-  unfolding nearer
-  nearer_none e = sym (rw (eq-eqb x absent e) refl)
-
-  pub nearer_own : (x ≡ 255 → ⊥) → x ≡ nearer x y
-  unfolding nearer
-  nearer_own n = sym (rw (ne_eqb x absent n) refl)
-
-module _ (u v p x y : ℕ) where
-  pub base_own : (u ≡ 255 → ⊥) → x ≡ base_by u v p x y
-  unfolding base_by
-  base_own n = sym (rw (ne_eqb u absent n) refl)
-
-  module _ (e : u ≡ 255) where
-    pub base_other : (v ≡ 255 → ⊥) → y ≡ base_by u v p x y
-    unfolding base_by
-    base_other n = sym (rw (eq-eqb u absent e, ne_eqb v absent n) refl)
-
-    module _ (f : v ≡ 255) where
-      pub base_paths : (p ≡ 255 → ⊥) → x ≡ base_by u v p x y
-      unfolding base_by
-      base_paths n = sym (rw (eq-eqb u absent e, eq-eqb v absent f, ne_eqb p absent n) refl)
-
-      pub base_last : p ≡ 255 → y ≡ base_by u v p x y
-      unfolding base_by
-      base_last g = sym (rw (eq-eqb u absent e, eq-eqb v absent f, eq-eqb p absent g) refl)
 
 -- The places one after the other
 

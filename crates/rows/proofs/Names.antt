@@ -2,7 +2,7 @@
 use mathlib.Core.Path.{◌≡◌, refl, sym, ap, ap₂, ◌∙◌}
 use mathlib.Core.List.{List, [], ◌∷◌}
 use mathlib.Core.Bool.{Bool, true, false, ◌&&◌, ◌||◌, cond, true≢false}
-use mathlib.Core.Option.{some, none}
+use Rattle.std.specs.Prelude.{Some, None}
 use Prim.Native.Nat.{ℕ, zero, suc, ◌+◌, ◌≤◌, ◌<◌}
 use native.Mathlib.Omega.{arith}
 use lib.Dec.{eqb, ltb, leb}
@@ -150,7 +150,7 @@ unfolding first_of only is_some some_of
 first_some f ok [] = refl
 first_some f ok (c ∷ r) = by_test (ok c) (λ y. rw y refl) (λ y. rw y (first_some f ok r))
 
-is_some_lem : {A : Type 0} (b : Bool) (a : A) → is_some (cond b (some a) none) ≡ b
+is_some_lem : {A : Type 0} (b : Bool) (a : A) → is_some (cond b (Some a) None) ≡ b
 unfolding is_some
 is_some_lem true a = refl
 is_some_lem false a = refl

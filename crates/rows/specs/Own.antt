@@ -25,10 +25,6 @@ unfoldable pub marked : ℕ → List Cmd → List ℕ → List ℕ
 marked c [] row = row
 marked c (x ∷ r) row = marked c r (set row (slot_of x) c)
 
--- there is no supplier at any place
-pub record Blank (row : List ℕ) : Type 0 where
-  pub none : (k : ℕ) → get_or row k absent ≡ absent
-
 -- the row of the record number c, whose commands are r, by itself
 pub record OwnRow (c : ℕ) (r : List Cmd) (row : List ℕ) : Type 0 where
   pub long : length row ≡ 28

@@ -1,9 +1,7 @@
 -- The records of an accepted book, and what the tables of its check say of them.
 use Rattle.std.specs.Prelude.{ℕ, ◌≤◌, ◌<◌, ◌≡◌, List, [], map, length, get_or}
-use Rattle.std.proofs.Math.Option.{Option, none}
+use Rattle.std.specs.Prelude.{Option, Some, None}
 use Rattle.text.specs.Bytes.{Text}
-use Rattle.text.specs.declared.Found.{Found}
-use Rattle.text.specs.declared.Found.TheVariants.{At, Nothing}
 use Rattle.ends.specs.Ends.{parent_of}
 use Rattle.book.specs.declared.Cmd.{Cmd}
 use Rattle.book.specs.Answer.{Answer, refused, given}
@@ -16,7 +14,7 @@ use Rattle.tsconfig.specs.Config.{Field}
 use Rattle.tsconfig.specs.Parsed.{Value, Parsed, parsed, said}
 use Rattle.tsconfig_resolver.specs.Find.{record_at, paths_of}
 
--- the records as parsed; none where the book is refused
+-- the records as parsed; None where the book is refused
 abbrev pub parsed_of : Text → Answer (List (List Cmd)) → List Parsed
 parsed_of text (refused n p) = []
 parsed_of text (given rs) = map (parsed text) rs
@@ -30,9 +28,9 @@ abbrev pub dir_of : Text → List Cmd → Text
 dir_of text r = parent_of (record_path_of text r)
 
 -- what the record that begins there says of the field
-unfoldable pub said_at : Text → Text → Found → (f : Field) → Option (Value f)
-said_at commands text Nothing f = none
-said_at commands text (At rec) f = said text (index.record_at commands rec) f
+unfoldable pub said_at : Text → Text → Option ℕ → (f : Field) → Option (Value f)
+said_at commands text None f = None
+said_at commands text (Some rec) f = said text (index.record_at commands rec) f
 
 module _ (commands text : Text) where
   -- record i is what the commands from begins[i] on say

@@ -1,9 +1,8 @@
 -- A merged config as the code holds it: a row of record numbers, one for each field and one for the base, and the record's own number. A value is
 -- what its supplier says.
-use Rattle.std.specs.Prelude.{ℕ, ◌+◌, ◌*◌, ◌<◌, ◌≡◌, List, true, cond, eqb, ltb, length, get_or, take, drop}
+use Rattle.std.specs.Prelude.{ℕ, ◌+◌, ◌<◌, ◌≡◌, List, [], true, cond, eqb, ltb, length, get_or}
 use Rattle.path.specs.Path.{is_some}
-use Rattle.text.specs.declared.Found.{Found}
-use Rattle.text.specs.declared.Found.TheVariants.{At, Nothing}
+use Rattle.std.specs.Prelude.{Option, Some, None}
 use Rattle.tsconfig.specs.Config.{Field, files, include, exclude, base_url, paths, root_dirs, out_dir, declaration_dir, flag, text}
 use Rattle.tsconfig.specs.Parsed.{Parsed}
 use Rattle.tsconfig.specs.Claims.{Site}
@@ -59,9 +58,9 @@ pub record Row (rs : List Parsed) (row : List ℕ) : Type 0 where
   pub own : number_of row < length rs
 
 -- row i of a table of rows
-abbrev pub row_at : List ℕ → ℕ → List ℕ
-row_at table i = take 28 (drop (28 * i) table)
+abbrev pub row_at : List (List ℕ) → ℕ → List ℕ
+row_at table i = get_or table i []
 
 -- where the record that stands at a place of the row begins in the commands
-unfoldable pub begin_at : List ℕ → List ℕ → ℕ → Found
-begin_at begins row k = cond (eqb (get_or row k absent) absent) Nothing (At (get_or begins (get_or row k absent) 0))
+unfoldable pub begin_at : List ℕ → List ℕ → ℕ → Option ℕ
+begin_at begins row k = cond (eqb (get_or row k absent) absent) None (Some (get_or begins (get_or row k absent) 0))

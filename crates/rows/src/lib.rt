@@ -1,13 +1,19 @@
 // Rows of suppliers: a merged config as 28 numbers, the record that supplies each field and the base, and the record itself.
 #![tactic(auto)]
 
-ghost use Rattle.std.specs.Prelude.{◌≡◌, ◌<◌, length, get_or, set};
+ghost use Rattle.std.specs.Prelude.{◌≡◌, ◌<◌, length, get_or, unwrap_or, option_map, IfSome};
 ghost use Rattle.book.specs.Index.{record_at};
+ghost use Rattle.rows.specs.Records.{Records, Paths};
 ghost use Rattle.rows.specs.Rows.{begin_at};
-ghost use Rattle.rows.specs.Own.{slot_of, marked, Blank, OwnRow};
+ghost use Rattle.rows.specs.Sets.{Records-prop};
+ghost use Rattle.rows.specs.Own.{slot_of, marked, OwnRow};
 
-use book::{Cmd, Cursor, END, FLAG, Step, TEXT_OPTION};
-use text::Found;
+use book::{
+    BASE_URL, Cmd, DECLARATION_DIR, END, EXCLUDE, FILES, FLAG, INCLUDE, OUT_DIR, PATHS, ROOT_DIRS,
+    TEXT_OPTION, command_at,
+};
+use record::Record;
+use records::PathTable;
 
 // Stands for no record: there are at most 64.
 pub const ABSENT: u8 = 255;
@@ -15,129 +21,112 @@ pub const ABSENT: u8 = 255;
 // How many places a row has.
 pub const ROW: usize = 28;
 
-// How many commands there are, 00 counted, which is none.
-const COMMANDS: usize = 21;
+// The place of the record that the base is of.
+pub const BASE_PLACE: usize = 26;
 
-// The places of the fields that the commands name; 28 where a command names none.
-const PLACES: [usize; 21] = [
-    28, // none
-    28, // BEGIN
-    0, // FILES
-    28, // FILE
-    1, // INCLUDE
-    28, // INCLUDE_ITEM
-    2, // EXCLUDE
-    28, // EXCLUDE_ITEM
-    28, // EXTENDS
-    3, // BASE_URL
-    4, // PATHS
-    28, // KEY
-    28, // TARGET
-    28, // REFERENCE
-    5, // ROOT_DIRS
-    28, // ROOT_DIR
-    6, // OUT_DIR
-    7, // DECLARATION_DIR
-    28, // FLAG
-    28, // TEXT_OPTION
-    28, // END
-];
+// The place of the row's own record.
+pub const OWN_PLACE: usize = 27;
 
-// A byte as an index.
-pub fn wide(x: u8) -> usize
-    ensures { (result ≡ x) × (result < 256) }
-{
-    x as usize
+// An accepted book: its commands, where each record begins in them, and the records' paths, with the text.
+#[derive(Clone, Copy)]
+pub struct CheckedBook<'a> {
+    pub commands: &'a [u8],
+    pub begins: &'a [usize],
+    pub paths: PathTable<'a>,
+    pub ghost records: { Records commands.now paths.text.now begins.now } by { Records-prop commands.now paths.text.now begins.now },
+    pub ghost listed: { Paths commands.now paths.text.now paths.starts.now paths.lens.now paths.count },
 }
 
-// The place of the field that a command names; 28 where it names none.
-fn slot_of(c: Cmd) -> usize
-    ensures { result ≡ slot_of c }
+// The place of the field that a command names.
+#[tactic(auto, unfolding(crate::specs::Own::slot_of))]
+fn slot_of(c: Cmd) -> Option<usize>
+    ensures place { unwrap_or result 28 ≡ slot_of c }
+    ensures inside { IfSome result (λ k. k < 26) }
 {
-    let op = c.op;
-    let id = wide(c.id);
-    if op == FLAG {
-        if id < 11 {
-            return 8 + id;
-        }
-        return ROW;
-    }
-    if op == TEXT_OPTION {
-        if id < 7 {
-            return 19 + id;
-        }
-        return ROW;
-    }
-    let i = wide(op);
-    if i < COMMANDS {
-        return PLACES[i];
-    }
-    ROW
-}
-
-// Takes each supplier out of the row.
-fn clear(row: &mut [u8])
-    ensures { Blank row.new }
-{
-    let mut i = 0;
-    while i < row.len() {
-        row[i] = ABSENT;
-        i += 1;
-    }
-}
-
-// Puts c at the place k, if the row has it.
-fn mark(row: &mut [u8], k: usize, c: u8)
-    ensures { row.new ≡ set row.old k c }
-{
-    if k < row.len() {
-        row[k] = c;
+    match c.op {
+        FILES => Some(0),
+        INCLUDE => Some(1),
+        EXCLUDE => Some(2),
+        BASE_URL => Some(3),
+        PATHS => Some(4),
+        ROOT_DIRS => Some(5),
+        OUT_DIR => Some(6),
+        DECLARATION_DIR => Some(7),
+        FLAG if c.id < 11 => Some(8 + usize::from(c.id)),
+        TEXT_OPTION if c.id < 7 => Some(19 + usize::from(c.id)),
+        _ => None,
     }
 }
 
 // Puts c at the place of each field that the record at rec names.
-fn mark_fields(commands: &[u8], rec: usize, c: u8, row: &mut [u8])
+fn mark_fields(commands: &[u8], rec: usize, c: u8, row: &mut [u8; ROW])
     ensures { row.new ≡ marked c (record_at commands.now rec) row.old }
 {
-    let mut cursor = Cursor { at: rec };
-    loop {
-        match cursor.step(commands) {
-            Step::End => return,
-            Step::Broken => return,
-            Step::Command(x, next) => {
-                let byte = x.op;
-                if byte == END {
-                    return;
-                }
-                let k = slot_of(x);
-                mark(row, k, c);
-                cursor = next;
-            }
+    let mut at = rec;
+    while let Ok((x, next)) = command_at(commands, at) {
+        if x.op == END {
+            return;
         }
+        if let Some(k) = slot_of(x) {
+            row[k] = c;
+        }
+        at = next;
     }
 }
 
 // The row of the record c, which begins at rec, by itself: it supplies each field that it names.
-pub fn own_row(commands: &[u8], rec: usize, c: u8, row: &mut [u8])
-    requires { length row.old ≡ 28 }
-    ensures { OwnRow c (record_at commands.now rec) row.new }
+pub fn own_row(commands: &[u8], rec: usize, c: u8) -> [u8; ROW]
+    ensures { OwnRow c (record_at commands.now rec) result }
 {
-    clear(row);
-    mark_fields(commands, rec, c, row);
-    row[26] = c;
-    row[27] = c;
+    let mut row = [ABSENT; ROW];
+    mark_fields(commands, rec, c, &mut row);
+    row[BASE_PLACE] = c;
+    row[OWN_PLACE] = c;
+    row
 }
 
 // Where the record that stands at a place of the row begins in the commands.
-pub fn begin_at(begins: &[usize], row: &[u8], k: usize) -> Found
+fn begin_at(begins: &[usize], row: &[u8], k: usize) -> Option<usize>
     requires { (k < length row.now) × ((get_or row.now k 255 ≡ 255 → ⊥) → get_or row.now k 255 < length begins.now) }
     ensures { result ≡ begin_at begins.now row.now k }
 {
     let c = row[k];
     if c == ABSENT {
-        return Found::Nothing;
+        return None;
     }
-    let i = wide(c);
-    let at = begins[i];
-    Found::At(at)
+    Some(begins[usize::from(c)])
+}
+
+impl<'a> CheckedBook<'a> {
+    ghost use Rattle.rows.specs.Checked.{records_in};
+
+    // The record c.
+    pub fn record_at(&self, c: usize) -> Record<'a>
+        requires { c < self.now.paths.count }
+        ensures at { result.at ≡ get_or self.now.begins.now c 0 }
+        ensures commands { result.commands.now ≡ self.now.commands.now }
+        ensures text { result.text.now ≡ self.now.paths.text.now }
+    {
+        Record {
+            commands: self.commands,
+            text: self.paths.text,
+            at: self.begins[c],
+        }
+    }
+
+    // The record that stands at a place of the row.
+    pub fn supplier(&self, row: &[u8], k: usize) -> Option<Record<'a>>
+        requires place { k < length row.now }
+        requires there { (get_or row.now k 255 ≡ 255 → ⊥) → get_or row.now k 255 < length (records_in self.now) }
+        ensures at { option_map (λ r. r.at) result ≡ begin_at self.now.begins.now row.now k }
+        ensures commands { IfSome result (λ r. r.commands.now ≡ self.now.commands.now) }
+        ensures text { IfSome result (λ r. r.text.now ≡ self.now.paths.text.now) }
+    {
+        let at = begin_at(self.begins, row, k)?;
+        Some(Record {
+            commands: self.commands,
+            text: self.paths.text,
+            at,
+        })
+    }
 }

@@ -2,14 +2,13 @@
 -- Assumes nothing.
 use mathlib.Core.Path.{◌≡◌, refl, sym, ap, ap₂, ◌∙◌}
 use mathlib.Core.List.{List, [], ◌∷◌, ◌++◌, map}
-use mathlib.Core.Option
-use mathlib.Core.Option.{Option, some, none, get_or}
+use Rattle.std.specs.Prelude.{Option, Some, None, option_map, unwrap_or}
 use Rattle.tsconfig.specs.Config.{Field, base_url, paths, Config, ◌or_else◌, first, last, base_if, merge, flat}
 use Rattle.tsconfig.specs.Bracket.{Tree, leaf, join, leaves, eval}
 
 or_else_assoc : {A : Type 0} (o p q : Option A) → (o or_else p) or_else q ≡ o or_else p or_else q
-or_else_assoc (some a) p q = refl
-or_else_assoc none p q = refl
+or_else_assoc (Some a) p q = refl
+or_else_assoc None p q = refl
 
 pub first_append : {A R : Type 0} (g : A → Option R) (xs ys : List A) → first g (xs ++ ys) ≡ first g xs or_else first g ys
 first_append g [] ys = refl
@@ -27,15 +26,15 @@ pub last_map : {A C : Type 0} (f : A → C) (a : A) (l : List A) → last (f a) 
 last_map f a [] = refl
 last_map f a (c ∷ l) = last_map f c l
 
-or_else_none : {A : Type 0} (o : Option A) → o or_else none ≡ o
-or_else_none (some a) = refl
-or_else_none none = refl
+or_else_none : {A : Type 0} (o : Option A) → o or_else None ≡ o
+or_else_none (Some a) = refl
+or_else_none None = refl
 
 base_one : {A C B : Type 0} (o : Option A) (p : Option C) (b : B) →
-    get_or (Option.map (λ v. b) o or_else none) (get_or (Option.map (λ v. b) p or_else none) b) ≡ b
-base_one (some a) p b = refl
-base_one none (some c) b = refl
-base_one none none b = refl
+    unwrap_or (option_map (λ v. b) o or_else None) (unwrap_or (option_map (λ v. b) p or_else None) b) ≡ b
+base_one (Some a) p b = refl
+base_one None (Some c) b = refl
+base_one None None b = refl
 
 -- a tree's first leaf, and the others
 module _ {A : Type 0} where
@@ -53,17 +52,17 @@ module _ {A : Type 0} where
 
 -- two options that are there together
 data Both {A R : Type 0} : Option A → Option R → Type 0 where
-  neither : Both none none
-  each : (a : A) (r : R) → Both (some a) (some r)
+  neither : Both None None
+  each : (a : A) (r : R) → Both (Some a) (Some r)
 
 -- The merge's base: U, P are the bases of the first naming baseUrl and paths, there where the fields M, N are; L is the last's.
 base_merge :
     {A C B : Type 0} {Mₐ Mᵦ : Option A} {N : Option C} {Uₐ Pₐ Uᵦ : Option B} →
     Both Mₐ Uₐ → Both N Pₐ → Both Mᵦ Uᵦ → (Pᵦ : Option B) (Lₐ Lᵦ : B) →
-    get_or (Uₐ or_else Uᵦ) (get_or (Pₐ or_else Pᵦ) Lᵦ)
-    ≡ get_or
-    (Option.map (λ v. get_or Uₐ (get_or Pₐ Lₐ)) Mₐ or_else Option.map (λ v. get_or Uᵦ (get_or Pᵦ Lᵦ)) Mᵦ)
-    (get_or (Option.map (λ v. get_or Uₐ (get_or Pₐ Lₐ)) N) (get_or Uᵦ (get_or Pᵦ Lᵦ)))
+    unwrap_or (Uₐ or_else Uᵦ) (unwrap_or (Pₐ or_else Pᵦ) Lᵦ)
+    ≡ unwrap_or
+    (option_map (λ v. unwrap_or Uₐ (unwrap_or Pₐ Lₐ)) Mₐ or_else option_map (λ v. unwrap_or Uᵦ (unwrap_or Pᵦ Lᵦ)) Mᵦ)
+    (unwrap_or (option_map (λ v. unwrap_or Uₐ (unwrap_or Pₐ Lₐ)) N) (unwrap_or Uᵦ (unwrap_or Pᵦ Lᵦ)))
 base_merge (each a r) n u P L L' = refl
 base_merge neither n (each b t) P L L' = refl
 base_merge neither (each c p) neither P L L' = refl
@@ -71,9 +70,9 @@ base_merge neither neither neither P L L' = refl
 
 both_or :
     {A R : Type 0} (o : Option A) (r : R) {p : Option A} {q : Option R} → Both p q →
-    Both (o or_else p) (Option.map (λ v. r) o or_else q)
-both_or (some a) r h = each a r
-both_or none r h = h
+    Both (o or_else p) (option_map (λ v. r) o or_else q)
+both_or (Some a) r h = each a r
+both_or None r h = h
 
 module _ {Val : Field → Type 0} {B : Type 0} where
   both : (f : Field) (l : List (Config Val B)) → Both (first (λ d. d.named f) l) (first (base_if f) l)

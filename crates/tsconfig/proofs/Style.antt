@@ -2,7 +2,7 @@
 use mathlib.Core.Path.{◌≡◌, refl}
 use mathlib.Core.List.{List, [], ◌∷◌}
 use mathlib.Core.Bool.{Bool, true, false, not, ◌&&◌, false≢true}
-use mathlib.Core.Option.{Option, some, none}
+use Rattle.std.specs.Prelude.{Option, Some, None}
 use Rattle.text.specs.Bytes.{Text}
 use Rattle.text.specs.Text.{some_of}
 use Rattle.ends.specs.Ends.{extension}
@@ -11,15 +11,15 @@ use Rattle.tsconfig.specs.Claims.{Site, allow_js, solution_style, no_references,
 
 not_listed : (path : Text) (o : Option (List Text)) → is_empty_list o ≡ true → named_file path o ≡ false
 unfolding is_empty_list named_file some_of
-not_listed path none h = refl
-not_listed path (some []) h = refl
-not_listed path (some (x ∷ xs)) h = absurd (false≢true h)
+not_listed path None h = refl
+not_listed path (Some []) h = refl
+not_listed path (Some (x ∷ xs)) h = absurd (false≢true h)
 
 not_included : (s : Site) (path : Text) (o : Option (List Text)) → is_empty_list o ≡ true → included s path o ≡ false
 unfolding is_empty_list included some_of
-not_included s path none h = absurd (false≢true h)
-not_included s path (some []) h = refl
-not_included s path (some (x ∷ xs)) h = absurd (false≢true h)
+not_included s path None h = absurd (false≢true h)
+not_included s path (Some []) h = refl
+not_included s path (Some (x ∷ xs)) h = absurd (false≢true h)
 
 and_false : (b : Bool) → b && false ≡ false
 and_false true = refl

@@ -1,6 +1,6 @@
 -- The file test over a built config (is_file_included_in_tsconfig), what a config claims, and the solution.
 use Rattle.std.specs.Prelude.{List, [], ◌∷◌, ◌++◌, Bool, true, false, not, ◌&&◌, ◌||◌, cond, ℕ, eqb}
-use Rattle.std.proofs.Math.Option.{Option, some, none, get_or}
+use Rattle.std.specs.Prelude.{Option, Some, None, unwrap_or}
 use Rattle.tsconfig.specs.Config.{files, include, exclude, flag}
 use Rattle.text.specs.Bytes.{Text, bytes, slash, dot, star, question}
 use Rattle.text.specs.Text.{same_text, some_of}
@@ -18,17 +18,17 @@ pub record Site : Type 0 where
 
 -- the ninth bool field of `CompilerOptions`
 abbrev pub allow_js : Settings → Bool
-allow_js c = get_or (c.named (flag 8)) false
+allow_js c = unwrap_or (c.named (flag 8)) false
 
 -- the extensions that a config takes in: TypeScript's own, and JavaScript's where allowJs is on, js. is_file_extension_allowed_in_tsconfig
 unfoldable pub allowed : Bool → Option Text → Bool
-allowed js none = false
-allowed js (some e) = is_ts_extension e || (js && is_js_extension e)
+allowed js None = false
+allowed js (Some e) = is_ts_extension e || (js && is_js_extension e)
 
 -- no program's input: no extension, or JavaScript's without allowJs. is_extensionless_or_uncompiled_js
 unfoldable pub outside : Bool → Option Text → Bool
-outside js none = true
-outside js (some e) = not js && is_js_extension e
+outside js None = true
+outside js (Some e) = not js && is_js_extension e
 
 -- the text ends with the byte
 unfoldable pub ends : ℕ → Text → Bool
@@ -50,19 +50,19 @@ matched js path p = same_text p path || ((not (ends star (implied p)) || allowed
 
 -- TSConfig Reference, include: without it nothing where `files` is there, else `**/*`, all below the config's directory
 unfoldable pub included : Site → Text → Option (List Text) → Bool
-included s path (some ps) = some_of (matched (allow_js s.config) path) ps
-included s path none =
+included s path (Some ps) = some_of (matched (allow_js s.config) path) ps
+included s path None =
     not (is_some (s.config.named files)) && (under path (parent_of s.path) && allowed (allow_js s.config) (extension path))
 
 -- TSConfig Reference, exclude: what include takes in and these match is left out; no default (02, #113)
 unfoldable pub excluded : Site → Text → Option (List Text) → Bool
-excluded s path none = false
-excluded s path (some ps) = some_of (matched (allow_js s.config) path) ps
+excluded s path None = false
+excluded s path (Some ps) = some_of (matched (allow_js s.config) path) ps
 
 -- TSConfig Reference, files: the files themselves, whatever exclude says. "`files` compares by components"
 unfoldable pub named_file : Text → Option (List Text) → Bool
-named_file path none = false
-named_file path (some fs) = some_of (λ f. same_path f path) fs
+named_file path None = false
+named_file path (Some fs) = some_of (λ f. same_path f path) fs
 
 -- "A config claims a path if the core's file test over its built form accepts it" (claim is 01's term): is_file_included_in_tsconfig
 unfoldable pub claims : Text → Site → Bool
@@ -73,11 +73,11 @@ claims path s =
 
 -- the list is there and empty
 unfoldable pub is_empty_list : Option (List Text) → Bool
-is_empty_list none = false
-is_empty_list (some []) = true
-is_empty_list (some (x ∷ xs)) = false
+is_empty_list None = false
+is_empty_list (Some []) = true
+is_empty_list (Some (x ∷ xs)) = false
 
--- there are none
+-- there are None
 unfoldable pub no_references : List Site → Bool
 no_references [] = true
 no_references (r ∷ rs) = false

@@ -1,6 +1,6 @@
 -- A build's whole output.
 use Rattle.std.specs.Prelude.{List, [], ◌∷◌, ◌++◌, Bool, cond, ℕ, zero, suc, ◌+◌, ltb}
-use Rattle.std.proofs.Math.Option.{Option, some, none}
+use Rattle.std.specs.Prelude.{Option, Some, None}
 use Rattle.tsconfig.specs.Config.{files, include, exclude, base_url, paths, root_dirs, out_dir, declaration_dir, flag, text}
 use Rattle.text.specs.Bytes.{Text, bytes}
 use Rattle.book.specs.Record.{Key}
@@ -36,8 +36,8 @@ decimal id = cond (ltb id 10) ((48 + id) ∷ []) (49 ∷ (38 + id) ∷ [])
 
 -- "an absent field has no line"
 unfoldable pub if_named : {A : Type 0} → (A → Text) → Option A → Text
-if_named show none = []
-if_named show (some v) = show v
+if_named show None = []
+if_named show (Some v) = show v
 
 -- "`flag` and id", "as `flag 2=1`"
 unfoldable pub flag_row : ℕ → Bool → Text

@@ -1,7 +1,6 @@
 -- A record as parsed: TsConfig::parse over a record of the book.
 use Rattle.std.specs.Prelude.{List, map, Bool, cond}
-use Rattle.std.proofs.Math.Option
-use Rattle.std.proofs.Math.Option.{Option, some, none}
+use Rattle.std.specs.Prelude.{Option, Some, None, option_map}
 use Rattle.text.specs.Bytes.{Text}
 use Rattle.names.specs.Names.{config_dir}
 use Rattle.text.specs.Text.{prefix_of}
@@ -52,8 +51,8 @@ placed_value dir (text id) v = v
 
 -- "with its own paths base": its baseUrl, else its directory
 unfoldable pub own_base : Text → Option Text → Text
-own_base dir none = dir
-own_base dir (some u) = placed dir u
+own_base dir None = dir
+own_base dir (Some u) = placed dir u
 
 -- a record as parsed, from its path, its extends entries, its references and what it says of each field
 unfoldable pub parse : Text → List Text → List Text → ((f : Field) → Option (Value f)) → Parsed
@@ -62,7 +61,7 @@ parse path extended references says =
       path = path;
       extended = extended;
       references = references;
-      says = λ f. Option.map (placed_value (parent_of path) f) (says f);
+      says = λ f. option_map (placed_value (parent_of path) f) (says f);
       base = own_base (parent_of path) (says base_url);
     }
 

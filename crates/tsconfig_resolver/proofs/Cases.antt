@@ -3,7 +3,7 @@ use Prim.Native.Nat.{ℕ}
 use Prim.Native.String.{String}
 use mathlib.Core.List.{List, [], ◌∷◌, ◌++◌, map}
 use mathlib.Core.Path.{◌≡◌, refl}
-use mathlib.Core.Option.{Option, some, none}
+use Rattle.std.specs.Prelude.{Option, Some, None}
 use Rattle.text.specs.Bytes.{Text, bytes}
 use Rattle.book.specs.declared.Cmd.{Cmd}
 use Rattle.book.specs.Answer.{Answer, refused, given}
@@ -67,8 +67,8 @@ abbrev pub records : List Line → List Parsed
 records ls = records_of_lem (text_of_lem ls) (verdict (commands_of ls) (text_of_lem ls))
 
 abbrev pub of_found : Option ℕ → Told
-of_found none = nothing
-of_found (some c) = numbers (c ∷ [])
+of_found None = nothing
+of_found (Some c) = numbers (c ∷ [])
 
 abbrev pub of_load : Answer Project → Told
 of_load (refused n p) = refuses n p
@@ -76,8 +76,8 @@ of_load (given p) = loaded p.merges (listing [] p.site.config) (map (λ r. r.num
 
 abbrev pub of_owner : Answer (Option Owner) → Told
 of_owner (refused n p) = refuses n p
-of_owner (given none) = nothing
-of_owner (given (some o)) = numbers (o.found ∷ o.solved ∷ [])
+of_owner (given None) = nothing
+of_owner (given (Some o)) = numbers (o.found ∷ o.solved ∷ [])
 
 abbrev pub answer : Case → Told
 answer (finds ls p) = of_found (locate (paths_of (records ls)) (bytes p))

@@ -2,7 +2,7 @@
 -- Assumes nothing.
 use mathlib.Core.Path.{◌≡◌, refl, sym, ap, ap₂, ◌∙◌}
 use mathlib.Core.List.{List, [], ◌∷◌, ◌++◌, map, append_assoc, append-nil, Memᴰ}
-use mathlib.Core.Option.{get_or}
+use Rattle.std.specs.Prelude.{unwrap_or}
 use Prim.Native.Nat.{ℕ, zero, suc, ◌<◌}
 use Rattle.tsconfig.specs.Config.{Field, base_url, paths, Config, first, last, base_if, flat}
 use Rattle.tsconfig.specs.Bracket.{Tree, leaf, join, leaves}
@@ -38,12 +38,12 @@ module _ {Val : Field → Type 0} {B : Type 0} (b : Configs Val B) where
 
   flat_base :
       (c : ℕ) → (flat_line b c).base
-      ≡ get_or (first (λ i. base_if base_url (b.own i)) (line b c))
-      (get_or (first (λ i. base_if paths (b.own i)) (line b c)) (b.own (last c (above b c))).base)
+      ≡ unwrap_or (first (λ i. base_if base_url (b.own i)) (line b c))
+      (unwrap_or (first (λ i. base_if paths (b.own i)) (line b c)) (b.own (last c (above b c))).base)
   unfolding flat
   flat_base c =
-      ap₂ get_or (first_map b.own (base_if base_url) (line b c))
-      (ap₂ get_or (first_map b.own (base_if paths) (line b c)) (ap (λ d. d.base) (last_map b.own c (above b c))))
+      ap₂ unwrap_or (first_map b.own (base_if base_url) (line b c))
+      (ap₂ unwrap_or (first_map b.own (base_if paths) (line b c)) (ap (λ d. d.base) (last_map b.own c (above b c))))
 
   pub demand_3 :
       ((c p : ℕ) → Memᴰ p (parents b c) → p < b.size) → (c : ℕ) (r : Loaded Val B) → c < b.size → load_asked b c ≡ given r →

@@ -3,7 +3,7 @@
 use mathlib.Core.Path.{◌≡◌, refl, sym, ap, ap₂, ◌∙◌, fun_ext}
 use mathlib.Core.List.{List, [], ◌∷◌, reverse, Memᴰ}
 use mathlib.Core.Bool.{Bool, true, false, ◌||◌, not, cond}
-use mathlib.Core.Option.{some}
+use Rattle.std.specs.Prelude.{Some}
 use Prim.Native.Nat.{ℕ, zero, suc, ◌≤◌, ◌<◌}
 use native.Mathlib.Omega.{arith}
 use borrow.Author.Tests.{eqb-true, eq-eqb}
@@ -42,7 +42,7 @@ module _ {Val : Field → Type 0} {B : Type 0} (b : Configs Val B) where
   unfolding load load_by
   load_law chain c s lt = go (chain c) refl
     where
-      go : (a : Bool) → chain c ≡ a → load_by b (free b chain) chain c s ≡ unless (cond a (some 9) (unread (b.entries c))) c (fresh b (load_by b (free b (add c chain)) (add c chain)) c) s
+      go : (a : Bool) → chain c ≡ a → load_by b (free b chain) chain c s ≡ unless (cond a (Some 9) (unread (b.entries c))) c (fresh b (load_by b (free b (add c chain)) (add c chain)) c) s
       go true e = on_chain (free b chain) chain c s e
       go false e = ap (λ k. load_by b k chain c s) (free_cons chain c lt e) ∙ rw (e, unless)
 
@@ -63,8 +63,8 @@ module _ {Val : Field → Type 0} {B : Type 0} (b : Configs Val B) where
         (k : ℕ) (chain : ℕ → Bool) (c : ℕ) (s : State Val B) → c < b.size → free b chain ≤ suc k →
         ((p : ℕ) (t : State Val B) → p < b.size → free b (add c chain) ≤ k → load_by b k (add c chain) p t ≡ load b (add c chain) p t) →
         (a : Bool) → chain c ≡ a →
-        unless (cond a (some 9) (unread (b.entries c))) c (fresh b (load_by b k (add c chain)) c) s
-        ≡ unless (cond a (some 9) (unread (b.entries c))) c (fresh b (load b (add c chain)) c) s
+        unless (cond a (Some 9) (unread (b.entries c))) c (fresh b (load_by b k (add c chain)) c) s
+        ≡ unless (cond a (Some 9) (unread (b.entries c))) c (fresh b (load b (add c chain)) c) s
     fresh_same k chain c s lt le ih true e = refl
     fresh_same k chain c s lt le ih false e =
         ap (λ f. unless (unread (b.entries c)) c f s)

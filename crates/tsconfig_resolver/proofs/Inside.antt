@@ -4,8 +4,7 @@ use mathlib.Core.List.Memᴰ
 use mathlib.Core.List.{List, [], ◌∷◌, map, reverse, reverse_aux, Memᴰ}
 use mathlib.Core.Logic.{⊎_elim}
 use mathlib.Core.Bool.{Bool, true, false, cond, ◌||◌}
-use mathlib.Core.Option
-use mathlib.Core.Option.{Option, some, none}
+use Rattle.std.specs.Prelude.{Option, Some, None, option_map}
 use Prim.Native.Nat.{ℕ, suc, ◌<◌}
 use native.Mathlib.Omega.{arith}
 use lib.Dec.{eqb}
@@ -45,10 +44,10 @@ unfolding find
 find_below t [] = tt
 find_below t (q ∷ qs) = go (same_text t q) (find t qs) (find_below t qs)
   where
-    go : (a : Bool) (o : Option ℕ) → Fits (length qs) (reached o) → Fits (suc (length qs)) (reached (cond a (some 0) (Option.map suc o)))
+    go : (a : Bool) (o : Option ℕ) → Fits (length qs) (reached o) → Fits (suc (length qs)) (reached (cond a (Some 0) (option_map suc o)))
     go true o h = omega arith
-    go false (some p) h = omega arith
-    go false none h = tt
+    go false (Some p) h = omega arith
+    go false None h = tt
 
 -- a record that a path means is one of the list
 pub locate_below : (rs : List Parsed) (t : Text) → Fits (length rs) (reached (locate (paths_of rs) t))

@@ -5,7 +5,7 @@ pub mod Room
 use mathlib.Core.Path.{◌≡◌, refl, sym, ap, ap₂, ◌∙◌, subst}
 use mathlib.Core.List.{List, [], ◌∷◌, ◌++◌, map, reverse, append-nil, append_assoc, Memᴰ}
 use mathlib.Core.Bool.{Bool, true, false, ◌||◌, cond, or_assoc, or-false, true≢false, false≢true}
-use mathlib.Core.Option.{Option, some, none}
+use Rattle.std.specs.Prelude.{Option, Some, None}
 use Prim.Native.Nat.{ℕ, zero, suc, ◌+◌, ◌<◌, ◌≤◌}
 use native.Mathlib.Omega.{arith}
 use borrow.Author.Tests.{eqb-true, eq-eqb, ne_eqb}
@@ -39,10 +39,10 @@ use Rattle.tsconfig_resolver.proofs.Line.{Within, within_more, rest_same, rest_s
 -- Tests and options.
 
 abbrev pub has : {A : Type 0} → Option A → Bool
-has (some a) = true
-has none = false
+has (Some a) = true
+has None = false
 
-has_put : {A : Type 0} (t : Bool) (x : A) (o : Option A) → has (cond t (some x) o) ≡ t || has o
+has_put : {A : Type 0} (t : Bool) (x : A) (o : Option A) → has (cond t (Some x) o) ≡ t || has o
 has_put true x o = refl
 has_put false x o = refl
 
@@ -66,7 +66,7 @@ or_absorb false false h = refl
 add_self : (c : ℕ) (chain : ℕ → Bool) → add c chain c ≡ true
 add_self c chain = or_left (chain c) (eq-eqb c c refl)
 
-off_chain : (a : Bool) (o : Option ℕ) → cond a (some 9) o ≡ none → a ≡ false
+off_chain : (a : Bool) (o : Option ℕ) → cond a (Some 9) o ≡ None → a ≡ false
 off_chain true o e = cc
 off_chain false o e = refl
 
@@ -89,16 +89,16 @@ module _ {A : Type 0} where
   given_same : {a c : A} → given a ≡ given c → a ≡ c
   given_same e = cc
 
-  none_some : {a : A} → none ≡ some a → ⊥
+  none_some : {a : A} → None ≡ Some a → ⊥
   none_some e = let z : ◌≡◌ {A = ℕ} 0 1 = cc in omega arith
 
   then_given : {C : Type 0} (a : Answer A) (k : A → Answer C) {c : C} → (a >>= k) ≡ given c → (x : A) × (a ≡ given x) × (k x ≡ given c)
   then_given (refused n p) k e = absurd (refused_given e)
   then_given (given x) k e = (x, refl, e)
 
-  unless_given : {S : Type 0} (o : Option ℕ) (p : ℕ) (k : S → Answer A) (s : S) {a : A} → unless o p k s ≡ given a → (o ≡ none) × (k s ≡ given a)
-  unless_given (some n) p k s e = absurd (refused_given e)
-  unless_given none p k s e = (refl, e)
+  unless_given : {S : Type 0} (o : Option ℕ) (p : ℕ) (k : S → Answer A) (s : S) {a : A} → unless o p k s ≡ given a → (o ≡ None) × (k s ≡ given a)
+  unless_given (Some n) p k s e = absurd (refused_given e)
+  unless_given None p k s e = (refl, e)
 
 module _ {Val : Field → Type 0} {B : Type 0} (b : Configs Val B) where
   abbrev pub Table : Type 0
@@ -114,7 +114,7 @@ module _ {Val : Field → Type 0} {B : Type 0} (b : Configs Val B) where
   -- What holds of a table between loads: each config in it is the flat one of its line; each way up from it ends within as many
   -- steps as the table holds records; its line is in the table.
   pub record Sound (t : Table) : Type 0 where
-    pub value : (p : ℕ) (x : Config Val B) → t p ≡ some x → x ≡ flat_line b p
+    pub value : (p : ℕ) (x : Config Val B) → t p ≡ Some x → x ≡ flat_line b p
     pub short : (p : ℕ) → has (t p) ≡ true → Within b (held t) p
     pub closed : (p i : ℕ) → has (t p) ≡ true → elem i (above b p) ≡ true → has (t i) ≡ true
 
@@ -159,9 +159,9 @@ module _ {Val : Field → Type 0} {B : Type 0} (b : Configs Val B) where
       (chain : ℕ → Bool) (one : ℕ → State Val B → Answer (Loaded Val B)) → Loads chain one → (p : ℕ) (s : State Val B) (r : Loaded Val B) →
       p < b.size → Sound s.table → Clear chain s.table → (o : Option (Config Val B)) → s.table p ≡ o → recall o (one p) s ≡ given r →
       Gives chain p s r
-  parent_step chain one ld p s r lt h k (some y) e q =
+  parent_step chain one ld p s r lt h k (Some y) e q =
       subst (Gives chain p s) (given_same q) (h.value p y e, step_held chain p s h k (ap has e))
-  parent_step chain one ld p s r lt h k none e q = ld p s r lt h k (ap has e) q
+  parent_step chain one ld p s r lt h k None e q = ld p s r lt h k (ap has e) q
 
   -- nothing done
   step_none : (chain : ℕ → Bool) (s : State Val B) → Sound s.table → Clear chain s.table → Step chain s s [] 0
@@ -240,7 +240,7 @@ module _ {Val : Field → Type 0} {B : Type 0} (b : Configs Val B) where
     self_value : x ≡ flat_line b c
     self_value = xs ∙ ap (λ l. flat (b.own c) (map b.own l)) (sym self_above)
 
-    put_value : (p : ℕ) (y : Config Val B) (a : Bool) → eqb p c ≡ a → cond a (some x) (t.table p) ≡ some y → y ≡ flat_line b p
+    put_value : (p : ℕ) (y : Config Val B) (a : Bool) → eqb p c ≡ a → cond a (Some x) (t.table p) ≡ Some y → y ≡ flat_line b p
     put_value p y true e q = let z : y ≡ x = cc in rw (eqb-true p c e) (z ∙ self_value)
     put_value p y false e q = w.sound.value p y q
 
@@ -287,7 +287,7 @@ module _ {Val : Field → Type 0} {B : Type 0} (b : Configs Val B) where
   clear_add chain c t k out i true e m = rw (eqb-true i c e) out
   clear_add chain c t k out i false e m = k i m
 
-  pub start_sound : Sound (λ i. none)
+  pub start_sound : Sound (λ i. None)
   start_sound =
       record {
         value = λ p x e. absurd (none_some e);
@@ -300,7 +300,7 @@ module _ {Val : Field → Type 0} {B : Type 0} (b : Configs Val B) where
   pub record Whole (c : ℕ) (r : Loaded Val B) : Type 0 where
     pub flattened : r.config ≡ flat_line b c
     pub members : (i : ℕ) → has (r.state.table i) ≡ elem i (line b c)
-    pub values : (i : ℕ) (x : Config Val B) → r.state.table i ≡ some x → x ≡ flat_line b i
+    pub values : (i : ℕ) (x : Config Val B) → r.state.table i ≡ Some x → x ≡ flat_line b i
     pub counted : r.state.merges ≡ entries_of b (line b c)
     pub unrolled : (i : ℕ) → elem i (line b c) ≡ true → line b i ≡ i ∷ lines (above b) (parents b i)
     pub acyclic : (i : ℕ) → elem i (line b c) ≡ true → elem i (above b i) ≡ false

@@ -1,6 +1,6 @@
 -- Demand 3: what holds where a config loads without refusal.
 use Rattle.std.specs.Prelude.{◌≡◌, List, [], ◌∷◌, map, true, false, ℕ, zero, suc, ◌≤◌}
-use Rattle.std.proofs.Math.Option.{get_or}
+use Rattle.std.specs.Prelude.{unwrap_or}
 use Rattle.tsconfig.specs.Config.{Field, base_url, paths, Config, first, last, base_if, merge}
 use Rattle.tsconfig.specs.Bracket.{Tree, leaf, join, leaves, eval}
 use Rattle.tsconfig_resolver.specs.Line.{Configs, lines, elem, parents, rest, above, line, flat_line, entries_of}
@@ -29,8 +29,8 @@ module _ {Val : Field → Type 0} {B : Type 0} (b : Configs Val B) where
     -- the base is that of the first naming baseUrl, else of the first naming paths, else of the last in the line
     pub base :
         r.config.base
-        ≡ get_or (first (λ i. base_if base_url (b.own i)) (line b c))
-        (get_or (first (λ i. base_if paths (b.own i)) (line b c)) (b.own (last c (above b c))).base)
+        ≡ unwrap_or (first (λ i. base_if base_url (b.own i)) (line b c))
+        (unwrap_or (first (λ i. base_if paths (b.own i)) (line b c)) (b.own (last c (above b c))).base)
     -- whichever way the line's merges are bracketed, its order kept, they end in the loaded config
     pub bracketed : (w : Tree (Config Val B)) → leaves w ≡ map b.own (line b c) → eval merge w ≡ r.config
     -- the load's own way is one of them

@@ -1,7 +1,6 @@
 -- What an extends entry or a reference of a record leads to, and the configs that the load sees.
 use Rattle.std.specs.Prelude.{ℕ, List, [], ◌∷◌, map, cond, ◌||◌, eqb, length, get_or}
-use Rattle.std.proofs.Math.Option
-use Rattle.std.proofs.Math.Option.{Option, some, none}
+use Rattle.std.specs.Prelude.{Option, Some, None, option_map}
 use Rattle.text.specs.Bytes.{Text, slash, dot}
 use Rattle.ends.specs.Ends.{parent_of}
 use Rattle.join.specs.Join.{normalize_with}
@@ -12,7 +11,7 @@ use Rattle.tsconfig_resolver.specs.Line.{Configs, Entry, empty, bare, missing, l
 
 -- what stands where there is no record
 abbrev pub blank : Parsed
-blank = record { path = []; extended = []; references = []; says = λ f. none; base = [] }
+blank = record { path = []; extended = []; references = []; says = λ f. None; base = [] }
 
 -- the record with the number
 abbrev pub record_at : List Parsed → ℕ → Parsed
@@ -32,8 +31,8 @@ meant rs c s = locate (paths_of rs) (normalize_with (parent_of (path_at rs c)) s
 
 -- "8: no such config" where nothing is found
 abbrev pub reached : Option ℕ → Entry
-reached (some p) = leads p
-reached none = missing
+reached (Some p) = leads p
+reached None = missing
 
 -- what an extends entry of the record c leads to: "11: empty extends entry", "12: extends starts with neither `/` nor `.`"
 unfoldable pub entry : List Parsed → ℕ → Text → Entry
@@ -56,7 +55,7 @@ seen rs =
       size = length rs;
       own =
           λ c. record {
-            named = λ f. Option.map (λ v. record { value = v; by = c }) ((record_at rs c).says f);
+            named = λ f. option_map (λ v. record { value = v; by = c }) ((record_at rs c).says f);
             base = record { value = (record_at rs c).base; by = c };
           };
       entries = λ c. map (entry rs c) (record_at rs c).extended;

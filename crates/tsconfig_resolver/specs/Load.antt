@@ -1,6 +1,6 @@
 -- The load: tables that live for one call, the chain, refusals, and the merges counted as they are made.
 use Rattle.std.specs.Prelude.{List, [], ◌∷◌, reverse, Bool, false, cond, not, ◌||◌, ℕ, zero, suc, eqb}
-use Rattle.std.proofs.Math.Option.{Option, some, none}
+use Rattle.std.specs.Prelude.{Option, Some, None}
 use Rattle.book.specs.Answer.{Answer, refused, given, ◌>>=◌, unless}
 use Rattle.tsconfig.specs.Config.{Field, Config, merge}
 use Rattle.tsconfig_resolver.specs.Line.{Configs, Entry, empty, bare, missing, leads, tally}
@@ -21,9 +21,9 @@ add c chain i = eqb i c || chain i
 
 -- the refusal of the first entry that is refused as it is read
 abbrev pub unread : List Entry → Option ℕ
-unread [] = none
-unread (empty ∷ es) = some 11
-unread (bare ∷ es) = some 12
+unread [] = None
+unread (empty ∷ es) = Some 11
+unread (bare ∷ es) = Some 12
 unread (missing ∷ es) = unread es
 unread (leads p ∷ es) = unread es
 
@@ -34,12 +34,12 @@ module _ {Val : Field → Type 0} {B : Type 0} where
 
   -- what the table has, else what comes next
   abbrev pub recall : Option (Config Val B) → (State Val B → Answer (Loaded Val B)) → State Val B → Answer (Loaded Val B)
-  recall (some x) k s = done x s
-  recall none k s = k s
+  recall (Some x) k s = done x s
+  recall None k s = k s
 
   -- the config in the table, under its record's number
   abbrev pub put : ℕ → Config Val B → State Val B → State Val B
-  put c x s = record { table = λ i. cond (eqb i c) (some x) (s.table i); merges = s.merges }
+  put c x s = record { table = λ i. cond (eqb i c) (Some x) (s.table i); merges = s.merges }
 
   -- one merge more
   abbrev pub counted : State Val B → State Val B
@@ -47,7 +47,7 @@ module _ {Val : Field → Type 0} {B : Type 0} where
 
   -- "tables .. living for one call": empty at its start
   abbrev pub start : State Val B
-  start = record { table = λ i. none; merges = 0 }
+  start = record { table = λ i. None; merges = 0 }
 
   -- one parent of the record c: from the table, or loaded by `one`
   abbrev pub parent : (ℕ → State Val B → Answer (Loaded Val B)) → ℕ → Entry → State Val B → Answer (Loaded Val B)
@@ -66,7 +66,7 @@ module _ {Val : Field → Type 0} {B : Type 0} where
 module _ {Val : Field → Type 0} {B : Type 0} (b : Configs Val B) where
   -- what refuses the record c before its parents are loaded: the chain, then its entries in order
   abbrev pub refusal : (ℕ → Bool) → ℕ → Option ℕ
-  refusal chain c = cond (chain c) (some 9) (unread (b.entries c))
+  refusal chain c = cond (chain c) (Some 9) (unread (b.entries c))
 
   -- the record c, where `one` loads a parent
   abbrev pub fresh : (ℕ → State Val B → Answer (Loaded Val B)) → ℕ → State Val B → Answer (Loaded Val B)
@@ -78,7 +78,7 @@ module _ {Val : Field → Type 0} {B : Type 0} (b : Configs Val B) where
   abbrev pub free : (ℕ → Bool) → ℕ
   free chain = tally b.size (λ i. 1) (λ i. not (chain i))
 
-  -- The record c, met under the chain, through k more records: where none is left, all are on the chain, c too.
+  -- The record c, met under the chain, through k more records: where None is left, all are on the chain, c too.
   unfoldable pub load_by : ℕ → (ℕ → Bool) → ℕ → State Val B → Answer (Loaded Val B)
   load_by zero chain c s = refused 9 c
   load_by (suc k) chain c s = unless (refusal chain c) c (fresh (load_by k (add c chain)) c) s

@@ -1,6 +1,6 @@
 -- A config loaded with its references, and the owner of a file.
 use Rattle.std.specs.Prelude.{List, [], ◌∷◌, cond, ℕ, zero, suc, ◌-◌, length}
-use Rattle.std.proofs.Math.Option.{Option, some, none}
+use Rattle.std.specs.Prelude.{Option, Some, None}
 use Rattle.book.specs.Find.{find, locate}
 use Rattle.book.specs.Answer.{Answer, refused, given, ◌>>=◌}
 use Rattle.tsconfig.specs.Config.{Config}
@@ -46,8 +46,8 @@ pub record Referred : Type 0 where
 
 -- "self test, then the reference's own extends, its chain starting empty with each parent"
 unfoldable pub refer_to : List Parsed → ℕ → Option ℕ → Store → Answer Referred
-refer_to rs c none s = refused 8 c
-refer_to rs c (some r) s = do
+refer_to rs c None s = refused 8 c
+refer_to rs c (Some r) s = do
   x ← refer (seen rs) c r s
   given (record { site = site_at rs r x.config; state = x.state })
 
@@ -68,8 +68,8 @@ load_record rs c = do
 
 -- "for 8 the record naming the missing config, 65,535 for the asked path"
 unfoldable pub load_found : List Parsed → Option ℕ → Answer Project
-load_found rs none = refused 8 65535
-load_found rs (some c) = load_record rs c
+load_found rs None = refused 8 65535
+load_found rs (Some c) = load_record rs c
 
 -- the config that an asked path means
 unfoldable pub load_path : List Parsed → Text → Answer Project
@@ -89,20 +89,20 @@ folders (suc k) d = d ∷ folders k (parent_of d)
 unfoldable pub owned : Text → Project → Answer (Option Owner) → Answer (Option Owner)
 owned path p above =
     cond (claims_ownership path p.site p.references)
-    (given (some (record { found = p.site.number; solved = solution path p.site p.references }))) above
+    (given (Some (record { found = p.site.number; solved = solution path p.site p.references }))) above
 
 -- the config of a folder, if it has one
 unfoldable pub owner_at : List Parsed → Text → Option ℕ → Answer (Option Owner) → Answer (Option Owner)
-owner_at rs path none above = above
-owner_at rs path (some c) above = do
+owner_at rs path None above = above
+owner_at rs path (Some c) above = do
   p ← load_record rs c
   owned path p above
 
 -- find_tsconfig_auto: "with a fresh resolver per asked config and per config on the finder's walk"
 unfoldable pub owner_from : List Parsed → Text → List Text → Answer (Option Owner)
-owner_from rs path [] = given none
+owner_from rs path [] = given None
 owner_from rs path (d ∷ ds) = owner_at rs path (find (push_of d tsconfig_json) (paths_of rs)) (owner_from rs path ds)
 
 -- "If the `path` is inside `node_modules`, this function always returns `None`."
 unfoldable pub owner_of : List Parsed → Text → Answer (Option Owner)
-owner_of rs path = cond (inside_node_modules path) (given none) (owner_from rs path (folders (length (components path) - 1) path))
+owner_of rs path = cond (inside_node_modules path) (given None) (owner_from rs path (folders (length (components path) - 1) path))

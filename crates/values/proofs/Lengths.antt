@@ -12,14 +12,14 @@ use Rattle.text.specs.Text.{prefix_of}
 use Rattle.components.specs.Components.{on_first, split}
 use Rattle.join.specs.Join.{joint, push_of, step_of, walk_of, normalize_with}
 use Rattle.text.proofs.Picks.{by_test}
-use Rattle.join.proofs.Walk.{step_length}
+use Rattle.join.proofs.Pieces.{step_length}
 use Rattle.join.proofs.Buffer.{joint_size}
 use Rattle.book.specs.declared.Cmd.{Cmd}
 use Rattle.book.specs.Command.{command, key, target, end}
 use Rattle.book.specs.Rules.{text_of}
 use Rattle.book.specs.Record.{is, only, strings, targets_of, keys_of}
 use Rattle.book.specs.Index.{up_to_end, record_at}
-use Rattle.items.proofs.Items.{read_from, by_reading}
+use Rattle.items.proofs.Reading.{read_from, by_reading}
 use Rattle.tsconfig.specs.Parsed.{placed}
 use Rattle.tsconfig.specs.Build.{without_slashes, in_config_dir, substituted, adjusted}
 

@@ -1,4 +1,3 @@
--- Laws of the built forms.
+-- Laws of the definitions of specs/.
 pub mod Lengths
 pub mod Forms
-pub mod Reading

@@ -1,16 +1,18 @@
-use native.Mathlib.Omega.{arith}
-use Rattle.rows.proofs.Fields.{row_begin}
-use Rattle.claims.proofs.Parts.{js_none, js_missing, js_got}
+use Rattle.std.proofs.Common.{arith}
+use Rattle.tsconfig.specs.Config.{flag}
+use Rattle.rows.specs.Rows.{slot}
+use Rattle.rows.proofs.Fields.{place_there}
+use Rattle.claims.proofs.Sites.{field_none, flag_some}
 use Rattle.claims.proofs.allow_js.Goals as goal
 
-pub begin_at-requires : goal.begin_at-requires
-begin_at-requires c = let a = c.args in row_begin a.commands.now a.text.now a.begins.now c.requires.0 a.row.now c.requires.1 16 (omega arith)
+pub supplier-requires-clause-there : goal.supplier-requires-clause-there
+supplier-requires-clause-there c = place_there _ _ _ c.args.book.now.records _ c.requires 16 (omega arith)
 
-pub returns-in_default : goal.returns-in_default
-returns-in_default c = let a = c.args in js_none a.commands.now a.text.now a.begins.now a.row.now c.requires.0 c.requires.1 _ c.begin_at.ensures c.in_default.is
+pub returns-in-Some : goal.returns-in-Some
+returns-in-Some c =
+    let e = c.in-Some.ensures in
+    rw (flag_some c.args.book.now c.args.row.now c.requires c.in-Some.supplier e.commands e.text e.at, ← c.flag.ensures) c.unwrap_or.ensures
 
-pub returns-in-Missing : goal.returns-in-Missing
-returns-in-Missing c = let a = c.args in js_missing a.commands.now a.text.now a.begins.now a.row.now c.requires.0 c.requires.1 _ c.begin_at.ensures c.in-At.is _ c.next_option.ensures c.in-Missing.is
-
-pub returns-in-At-next_option : goal.returns-in-At-next_option
-returns-in-At-next_option c = let a = c.args in js_got a.commands.now a.text.now a.begins.now a.row.now c.requires.0 c.requires.1 _ c.begin_at.ensures c.in-At.is _ c.next_option.ensures c.in-At-next_option.is
+pub returns-in-None : goal.returns-in-None
+unfolding slot
+returns-in-None c = rw (field_none c.args.book.now c.args.row.now c.requires (flag 8) c.in-None.ensures.at)

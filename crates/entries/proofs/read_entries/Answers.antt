@@ -1,30 +1,28 @@
-use mathlib.Core.Path.{sym, ap, ◌∙◌}
-use Rattle.records.specs.Paths.{path_table}
-use Rattle.entries.specs.Codes.{entry_at}
-use Rattle.entries.proofs.Entries.{coding_start, coding_end, coding_short, coding_room, coding_less, coding_on}
-use native.Mathlib.Omega.{arith}
+use Rattle.std.proofs.Common.{ap, ◌∙◌, refl}
+use Rattle.record.specs.declared.lists.Strings.{Strings}
+use Rattle.entries.proofs.Going.{reading_start, reading_end, reading_room, reading_on}
+use Rattle.entries.proofs.Dirs.{record_sound, strings_are, few_extends, entries_read}
 use Rattle.entries.proofs.read_entries.Goals as goal
 
-pub loop-c-init : goal.loop-c-init
-loop-c-init c = let a = c.args in coding_start a.commands.now a.text.now (path_table a.text.now a.starts.now a.lens.now a.n) a.n a.rec a.dir.now a.codes.now c.requires.sound c.requires.long
+pub loop-s-init : goal.loop-s-init
+loop-s-init c =
+    let b = c.args.book.now in
+    let own = c.record_at.ensures in
+    let items = c.strings-s-items.ensures in
+    let begun = c.into_iter-s-iterator.ensures.into_iter_gives in
+    reading_start b _ _ _ _ (strings_are b c.args.c c.requires _ own.at own.commands own.text _ (ap (λ (it : Strings). it.record) begun ∙ items.record) _ (ap (λ (it : Strings). it.op) begun ∙ items.op))
+    (few_extends _ _ (record_sound b c.args.c c.requires)) refl
 
-pub shape_of-codes-in-Missing : goal.shape_of-codes-in-Missing
-shape_of-codes-in-Missing c = c.loop-c.invariant.long ∙ sym c.requires.long
+pub read_entry-requires : goal.read_entry-requires
+read_entry-requires c = (c.record_dir-dir.ensures.short, c.in-Some.ensures.steps.short)
 
-pub returns-in-Missing : goal.returns-in-Missing
-returns-in-Missing c = let a = c.args in coding_end a.commands.now a.text.now (path_table a.text.now a.starts.now a.lens.now a.n) a.n a.rec a.dir.now _ _ _ c.loop-c.invariant _ c.next_item.ensures c.in-Missing.is
+pub bounds-all-count : goal.bounds-all-count
+bounds-all-count c = reading_room _ _ _ _ _ _ c.loop-s.invariant c.in-Some.ensures.steps.first
 
-pub entry_code-v-requires : goal.entry_code-v-requires
-entry_code-v-requires c = let a = c.args in (c.requires.few, (c.requires.starts_there, (c.requires.lens_there, (c.requires.short, rw c.string_of-s.ensures (coding_short a.commands.now a.text.now (path_table a.text.now a.starts.now a.lens.now a.n) a.n a.rec a.dir.now _ _ _ c.loop-c.invariant _ c.next_item.ensures c.in-At.is)))))
+pub loop-s-preserved : goal.loop-s-preserved
+loop-s-preserved c = reading_on _ _ _ _ _ _ c.loop-s.invariant c.in-Some.ensures.steps.first c.read_entry.result c.read_entry.ensures
 
-pub bounds-codes-k : goal.bounds-codes-k
-bounds-codes-k c = let a = c.args in coding_room a.commands.now a.text.now (path_table a.text.now a.starts.now a.lens.now a.n) a.n a.rec a.dir.now _ _ _ c.loop-c.invariant _ c.next_item.ensures c.in-At.is
-
-pub overflow_add-k : goal.overflow_add-k
-overflow_add-k c = let a = c.args in omega (arith, coding_room a.commands.now a.text.now (path_table a.text.now a.starts.now a.lens.now a.n) a.n a.rec a.dir.now _ _ _ c.loop-c.invariant _ c.next_item.ensures c.in-At.is, c.loop-c.invariant.long)
-
-pub loop-c-smaller : goal.loop-c-smaller
-loop-c-smaller c = let a = c.args in coding_less a.commands.now a.text.now (path_table a.text.now a.starts.now a.lens.now a.n) a.n a.rec a.dir.now _ _ _ c.loop-c.invariant _ c.next_item.ensures c.in-At.is
-
-pub loop-c-preserved : goal.loop-c-preserved
-loop-c-preserved c = let a = c.args in coding_on a.commands.now a.text.now (path_table a.text.now a.starts.now a.lens.now a.n) a.n a.rec a.dir.now _ _ _ c.loop-c.invariant _ c.next_item.ensures c.in-At.is _ (c.entry_code-v.ensures ∙ ap (entry_at (path_table a.text.now a.starts.now a.lens.now a.n) a.dir.now) c.string_of-s.ensures)
+pub returns : goal.returns
+returns c =
+    let i = c.loop-s.invariant in
+    entries_read c.args.book.now c.args.c c.requires _ c.record_dir-dir.ensures.value _ (reading_end _ _ _ _ _ _ i c.in-None.ensures.steps.first.0) i.inside

@@ -1,11 +1,10 @@
-use Prim.Native.Nat.{◌-◌}
-use lib.ListN.{length}
-use Rattle.records.specs.Paths.{path_table}
-use Rattle.entries.proofs.Entries.{Coding}
+use Rattle.std.proofs.Common.{get_or}
+use Rattle.book.specs.Command.{extends}
+use Rattle.book.specs.Index.{record_at}
+use Rattle.book.specs.Record.{strings}
+use Rattle.record.specs.Lists.{strings_left}
+use Rattle.entries.proofs.Going.{Reading}
 use Rattle.entries.proofs.read_entries.Given as goal
 
-abbrev pub invariant-loop-c : goal.invariant-loop-c
-invariant-loop-c l = Coding l.commands l.text (path_table l.text l.starts l.lens l.n) l.n l.rec l.dir l.codes l.at l.k
-
-abbrev pub decreases-loop-c : goal.decreases-loop-c
-decreases-loop-c l = length l.commands - l.at
+abbrev pub invariant-loop-s : goal.invariant-loop-s
+invariant-loop-s l = Reading l.book l.dir (strings l.book.paths.text.now extends (record_at l.book.commands.now (get_or l.book.begins.now l.c 0))) l.all (strings_left l.s-iterator) l.count

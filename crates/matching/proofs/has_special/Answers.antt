@@ -1,13 +1,11 @@
-use Rattle.matching.proofs.Patterns.{some_here, some_on, some_end}
+use Rattle.std.proofs.Common.{◌∙◌, rules, tests}
+use Rattle.std.proofs.lemmas.Iterator.{YieldsList-from_slice}
+use Rattle.std.proofs.lemmas.Iterator.Search.{any_from_yields_List}
+use Rattle.text.proofs.Scans.{some_as_std}
 use Rattle.tsconfig.specs.Claims.{is_special}
-use borrow.Author.Rules.{rules}
 use Rattle.matching.proofs.has_special.Goals as goal
 
-pub returns-then-is_special : goal.returns-then-is_special
-returns-then-is_special c = cc (some_here is_special _ _ c.loop-i-test.true _ c.is_special.ensures c.if-is_special.true)
-
-pub loop-i-preserved : goal.loop-i-preserved
-loop-i-preserved c = (search rules, cc (some_on is_special _ _ c.loop-i-test.true _ c.is_special.ensures c.if-is_special.false))
-
 pub returns : goal.returns
-returns c = cc (some_end is_special _ _ c.loop-i-test.false)
+returns c =
+    let s = c.args.s.now in
+    any_from_yields_List is_special _ _ c.any.result c.any.ensures.ran (YieldsList-from_slice s cc) (λ x b q k. search (rules, tests)) ∙ some_as_std is_special s

@@ -1,20 +1,27 @@
-use Rattle.matching.proofs.Patterns.{imply_none, imply_stars, imply_slash}
-use mathlib.Core.Path.{sym}
-use lib.Seq.{length-take-le}
-use native.Mathlib.Omega.{arith}
+use mathlib.Core.Path.{◌≡◌, ap, ◌∙◌}
+use Rattle.tsconfig.specs.Claims.{implied}
+use Rattle.matching.proofs.Patterns.{stars, implied_fits, implied_text}
+use Rattle.matching.proofs.imply.Goals.{then-ends_with, else-ends_with}
 use Rattle.matching.proofs.imply.Goals as goal
 
-pub slice_bounds-last_piece-end-2 : goal.slice_bounds-last_piece-end-2
-slice_bounds-last_piece-end-2 c = sym (length-take-le _ _ (omega arith))
+pub returns-then-has_special : goal.returns-then-has_special
+unfolding implied
+returns-then-has_special c = rw (← c.last_piece.ensures, ← c.has_special.ensures, c.if-has_special.true)
 
-pub returns-then-special : goal.returns-then-special
-returns-then-special c = let a = c.args in imply_none a.out.now a.n c.requires _ c.last_piece.ensures _ c.has_special-special.ensures c.if-special.true
-
-pub slice_bounds-ends_with-end-2 : goal.slice_bounds-ends_with-end-2
-slice_bounds-ends_with-end-2 c = sym (length-take-le _ _ (omega arith))
-
-pub returns-then-ended : goal.returns-then-ended
-returns-then-ended c = let a = c.args in imply_stars a.out.now a.n c.requires _ c.last_piece.ensures _ c.has_special-special.ensures c.if-special.false _ c.ends_with-ended.ensures _ _ c.if-ended.true c.put_text.ensures
+pub into_text-requires : goal.into_text-requires
+into_text-requires c =
+    let e : c.if-ends_with.put_text.now ≡ stars c.args.p.now =
+    elim c.if-ends_with.branch [
+      | then-ends_with w ↦ rw (← c.ends_with.ensures, w.if-ends_with.true) (ap (λ b. b.now) w.put_text-is)
+      | else-ends_with w ↦ rw (← c.ends_with.ensures, w.if-ends_with.false) (ap (λ b. b.now) w.put_text-is)
+    ] in
+    implied_fits c.args.p.now _ _ _ _ c.new-pattern.ensures.at (rw c.new-pattern.ensures.bytes c.requires) (rw (← c.last_piece.ensures, ← c.has_special.ensures) c.if-has_special.false) c.put_text.ensures e c.put_text-2.ensures
 
 pub returns : goal.returns
-returns c = let a = c.args in imply_slash a.out.now a.n c.requires _ c.last_piece.ensures _ c.has_special-special.ensures c.if-special.false _ c.ends_with-ended.ensures _ _ c.if-ended.false c.put_text-2.ensures
+returns c =
+    let e : c.if-ends_with.put_text.now ≡ stars c.args.p.now =
+    elim c.if-ends_with.branch [
+      | then-ends_with w ↦ rw (← c.ends_with.ensures, w.if-ends_with.true) (ap (λ b. b.now) w.put_text-is)
+      | else-ends_with w ↦ rw (← c.ends_with.ensures, w.if-ends_with.false) (ap (λ b. b.now) w.put_text-is)
+    ] in
+    c.into_text.ensures ∙ implied_text c.args.p.now _ _ _ _ c.new-pattern.ensures.at (rw c.new-pattern.ensures.bytes c.requires) (rw (← c.last_piece.ensures, ← c.has_special.ensures) c.if-has_special.false) c.put_text.ensures e c.put_text-2.ensures

@@ -1,11 +1,14 @@
-use Rattle.matching.proofs.Patterns.{outside_missing, outside_allowed, outside_js}
+use Rattle.tsconfig.specs.Claims.{outside}
 use Rattle.matching.proofs.is_outside.Goals as goal
 
-pub returns-in_default : goal.returns-in_default
-returns-in_default c = outside_missing _ _ _ c.extension.ensures c.in_default.is
+pub returns-then-not-js : goal.returns-then-not-js
+unfolding outside
+returns-then-not-js c = rw (← c.extension.ensures, c.in-Some.is, c.if-not-js.true) c.is_js_extension.ensures
 
-pub returns-then-js : goal.returns-then-js
-returns-then-js c = outside_allowed _ _ _ c.extension.ensures c.in-Span.is c.if-js.true
+pub returns-else-not-js : goal.returns-else-not-js
+unfolding outside
+returns-else-not-js c = rw (← c.extension.ensures, c.in-Some.is, c.if-not-js.false)
 
-pub returns : goal.returns
-returns c = outside_js _ _ _ c.extension.ensures c.in-Span.is _ c.between-own.ensures c.if-js.false _ c.is_js_extension.ensures
+pub returns-in-None : goal.returns-in-None
+unfolding outside
+returns-in-None c = rw (← c.extension.ensures, c.in-None.is)

@@ -1,32 +1,30 @@
-use lib.Seq.{take-length}
-use Rattle.rows.specs.Records.{records_of}
-use native.Mathlib.Omega.{arith}
-use Rattle.owner.proofs.Walks.{walk_never, walk_start, walk_refused, walk_found, walk_end, walk_on, walk_at, parent_part}
+use Rattle.std.proofs.Common.{Ok, ap, ◌∙◌, ◌+◌, ◌-◌, arith}
+use Rattle.std.proofs.lemmas.Result.{err_from_is_err_and}
+use Rattle.rows.specs.Checked.{records_in}
+use Rattle.owner.proofs.Walks.{walk_never, walk_start, walk_end, walk_refused, walk_found, walk_on}
 use Rattle.owner.proofs.find_owner.Goals as goal
 
 pub returns-then-inside_node_modules : goal.returns-then-inside_node_modules
-returns-then-inside_node_modules c = let a = c.args in walk_never (records_of a.commands.now a.text.now) a.path.now _ c.inside_node_modules.ensures c.if-inside_node_modules.true
+returns-then-inside_node_modules c = let a = c.args in walk_never (records_in a.book.now) a.path.now _ c.inside_node_modules.ensures c.if-inside_node_modules.true
 
-pub loop-k-init : goal.loop-k-init
-loop-k-init c = let a = c.args in walk_start (records_of a.commands.now a.text.now) a.path.now _ c.inside_node_modules.ensures c.if-inside_node_modules.false _ c.count_components-left.ensures _ (take-length a.path.now)
+pub loop-init : goal.loop-init
+loop-init c = let a = c.args in walk_start (records_in a.book.now) a.path.now _ c.inside_node_modules.ensures c.if-inside_node_modules.false _ (omega (arith, c.max-end.ensures, c.count_components.ensures))
 
-pub owned_in-requires : goal.owned_in-requires
-owned_in-requires c = c.requires
+pub returns-in_err-owner : goal.returns-in_err-owner
+returns-in_err-owner c =
+    let a = c.args in
+    let p = err_from_is_err_and c.from_residual.result c.from_residual.ensures.1 in
+    rw (p.1, p.2) (walk_refused (records_in a.book.now) a.path.now _ (c.max-end.result - (c.loop.counter + 1)) _ c.loop.invariant (omega arith) _ c.owned_in.ensures _ c.in_err-owner.was)
 
-pub returns-in-Refused : goal.returns-in-Refused
-returns-in-Refused c = let a = c.args in let w = walk_at (records_of a.commands.now a.text.now) a.path.now _ _ _ c.upto-folder.ensures c.loop-k.invariant in walk_refused (records_of a.commands.now a.text.now) a.path.now _ _ w _ c.owned_in.ensures _ _ c.in-Refused.is
+pub returns-in-Some : goal.returns-in-Some
+returns-in-Some c =
+    let a = c.args in
+    walk_found (records_in a.book.now) a.path.now _ (c.max-end.result - (c.loop.counter + 1)) _ c.loop.invariant (omega arith) _ c.owned_in.ensures _ (c.in_ok-owner.was ∙ ap Ok c.in-Some.is)
 
-pub returns-in-By : goal.returns-in-By
-returns-in-By c = let a = c.args in let w = walk_at (records_of a.commands.now a.text.now) a.path.now _ _ _ c.upto-folder.ensures c.loop-k.invariant in walk_found (records_of a.commands.now a.text.now) a.path.now _ _ w _ c.owned_in.ensures _ _ c.in-By.is
+pub loop-preserved : goal.loop-preserved
+loop-preserved c =
+    let a = c.args in
+    walk_on (records_in a.book.now) a.path.now _ (c.max-end.result - (c.loop.counter + 1)) _ c.loop.invariant (omega arith) _ c.owned_in.ensures (c.in_ok-owner.was ∙ ap Ok c.in_default.is) _ c.parent-folder.ensures
 
-pub returns-then-left-le1 : goal.returns-then-left-le1
-returns-then-left-le1 c = let a = c.args in let w = walk_at (records_of a.commands.now a.text.now) a.path.now _ _ _ c.upto-folder.ensures c.loop-k.invariant in walk_end (records_of a.commands.now a.text.now) a.path.now _ _ w _ c.owned_in.ensures c.in-Nobody.is c.if-left-le1.true
-
-pub overflow_sub-left : goal.overflow_sub-left
-overflow_sub-left c = omega (arith, c.if-left-le1.false)
-
-pub loop-k-smaller : goal.loop-k-smaller
-loop-k-smaller c = omega (arith, c.if-left-le1.false)
-
-pub loop-k-preserved : goal.loop-k-preserved
-loop-k-preserved c = let a = c.args in let w = walk_at (records_of a.commands.now a.text.now) a.path.now _ _ _ c.upto-folder.ensures c.loop-k.invariant in walk_on (records_of a.commands.now a.text.now) a.path.now _ _ w _ c.owned_in.ensures c.in-Nobody.is c.if-left-le1.false _ (parent_part a.path.now _ c.loop-k.end c.upto-folder.ensures _ c.parent_len-end.ensures)
+pub returns : goal.returns
+returns c = let a = c.args in walk_end (records_in a.book.now) a.path.now _ _ c.loop.invariant (omega arith)

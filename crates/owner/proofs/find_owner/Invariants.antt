@@ -1,10 +1,8 @@
-use lib.ListN.{take}
-use Rattle.rows.specs.Records.{records_of}
-use Rattle.owner.proofs.Walks.{Walking}
+use Rattle.std.proofs.Common.{◌≡◌, ◌-◌}
+use Rattle.tsconfig_resolver.specs.Project.{owner_of, owner_from}
+use Rattle.rows.specs.Checked.{records_in}
+use Rattle.owner.proofs.Walks.{left}
 use Rattle.owner.proofs.find_owner.Given as goal
 
-abbrev pub invariant-loop-k : goal.invariant-loop-k
-invariant-loop-k l = Walking (records_of l.commands l.text) l.path l.left (take l.end l.path)
-
-abbrev pub decreases-loop-k : goal.decreases-loop-k
-decreases-loop-k l = l.left
+abbrev pub invariant-loop : goal.invariant-loop
+invariant-loop l = owner_of (records_in l.book) l.path ≡ owner_from (records_in l.book) l.path (left (l.end - l.counter) l.folder)

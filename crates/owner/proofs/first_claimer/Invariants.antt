@@ -1,10 +1,8 @@
-use Prim.Native.Nat.{◌-◌}
-use Rattle.rows.specs.Records.{records_of}
-use Rattle.owner.proofs.Walks.{Searching}
+use Rattle.std.proofs.Common.{◌≡◌, drop}
+use Rattle.rows.specs.Checked.{records_in}
+use Rattle.references.specs.References.{sites_of}
+use Rattle.owner.specs.Owned.{claimer}
 use Rattle.owner.proofs.first_claimer.Given as goal
 
-abbrev pub invariant-loop-i : goal.invariant-loop-i
-invariant-loop-i l = Searching l.path (records_of l.commands l.text) l.refs l.i l.k
-
-abbrev pub decreases-loop-i : goal.decreases-loop-i
-decreases-loop-i l = l.k - l.i
+abbrev pub invariant-loop-row : goal.invariant-loop-row
+invariant-loop-row l = claimer l.path (sites_of (records_in l.book) l.refs) ≡ claimer l.path (sites_of (records_in l.book) (drop l.row-index l.refs))

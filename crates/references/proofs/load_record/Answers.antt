@@ -1,19 +1,27 @@
-use Rattle.rows.specs.Records.{records_of}
-use Rattle.entries.proofs.Dirs.{references_are}
-use Rattle.references.proofs.Refers.{record_tables, record_load, whole_refused, record_references, whole_reference, whole_done}
+use Rattle.std.proofs.lemmas.Result.{err_from_is_err_and}
+use Rattle.rows.specs.Checked.{records_in}
+use Rattle.references.proofs.Refers.{whole_refused, whole_reference, whole_done, record_load, record_references}
 use Rattle.references.proofs.load_record.Goals as goal
 
 pub load-requires : goal.load-requires
-load-requires c = let a = c.args in record_load a.commands.now a.text.now a.begins.now a.starts.now a.lens.now a.n _ _ _ c.requires
+load-requires c = record_load c.args.book.now c.args.c c.requires
 
-pub returns-in-Refused : goal.returns-in-Refused
-returns-in-Refused c = let a = c.args in whole_refused (records_of a.commands.now a.text.now) a.c _ _ c.load.ensures _ _ c.in-Refused.is
+pub returns-in_err-own : goal.returns-in_err-own
+returns-in_err-own c =
+    let a = c.args in
+    let p = err_from_is_err_and c.from_residual.result c.from_residual.ensures.1 in
+    rw (p.1, p.2) (whole_refused (records_in a.book.now) a.c _ _ c.load.ensures _ c.in_err-own.was)
 
 pub load_references-requires : goal.load_references-requires
-load_references-requires c = let a = c.args in record_references a.commands.now a.text.now a.begins.now a.starts.now a.lens.now a.n a.c _ _ c.requires _ _ c.load.ensures _ c.in-Done.is
+load_references-requires c = let a = c.args in record_references a.book.now a.c c.requires _ _ c.load.ensures _ c.in_ok-own.was
 
-pub returns-in-Refused-load_references : goal.returns-in-Refused-load_references
-returns-in-Refused-load_references c = let a = c.args in whole_reference (records_of a.commands.now a.text.now) a.c _ _ c.load.ensures _ c.in-Done.is _ (references_are a.commands.now a.text.now a.begins.now a.starts.now a.lens.now a.n (record_tables a.commands.now a.text.now a.begins.now a.starts.now a.lens.now a.n _ _ _ c.requires) a.c c.requires.inside) _ _ c.load_references.ensures _ _ c.in-Refused-load_references.is
+pub returns-in_err-references : goal.returns-in_err-references
+returns-in_err-references c =
+    let a = c.args in
+    let p = err_from_is_err_and c.from_residual-in_err-references.result c.from_residual-in_err-references.ensures.1 in
+    rw (p.1, p.2) (whole_reference (records_in a.book.now) a.c _ _ c.load.ensures _ c.in_ok-own.was _ _ c.load_references.ensures _ c.in_err-references.was)
 
-pub returns-in-Done-load_references : goal.returns-in-Done-load_references
-returns-in-Done-load_references c = let a = c.args in whole_done (records_of a.commands.now a.text.now) a.c _ _ c.load.ensures _ c.in-Done.is _ (references_are a.commands.now a.text.now a.begins.now a.starts.now a.lens.now a.n (record_tables a.commands.now a.text.now a.begins.now a.starts.now a.lens.now a.n _ _ _ c.requires) a.c c.requires.inside) _ _ c.load_references.ensures _ c.in-Done-load_references.is _ c.copy_row.ensures
+pub returns : goal.returns
+returns c =
+    let a = c.args in
+    whole_done (records_in a.book.now) a.c _ _ c.load.ensures _ c.in_ok-own.was _ _ c.load_references.ensures _ c.in_ok-references.was

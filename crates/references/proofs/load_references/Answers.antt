@@ -1,45 +1,32 @@
-use mathlib.Core.Path.{sym, ◌∙◌}
-use Rattle.rows.specs.Records.{records_of}
-use Rattle.entries.proofs.Dirs.{begin_there, inside_records}
-use Rattle.references.proofs.Refers.{referring_start, referring_end, references_next, referring_refused, referring_room, referring_less, referring_on}
-use native.Mathlib.Omega.{arith}
+use Rattle.std.proofs.Common.{ap, ◌∙◌, arith}
+use Rattle.std.proofs.lemmas.Result.{err_from_is_err_and}
+use Rattle.record.specs.declared.lists.Strings.{Strings}
+use Rattle.entries.proofs.Dirs.{strings_are}
+use Rattle.references.proofs.Refers.{referring_start, referring_end, referring_room, referring_next, referring_refused, referring_on}
 use Rattle.references.proofs.load_references.Goals as goal
 
-pub offset_bounds-begins-c : goal.offset_bounds-begins-c
-offset_bounds-begins-c c = let a = c.args in omega (arith, begin_there a.commands.now a.text.now a.begins.now a.starts.now a.lens.now a.n c.requires.book a.c c.requires.inside)
-
-pub bounds-begins-c : goal.bounds-begins-c
-bounds-begins-c c = let a = c.args in begin_there a.commands.now a.text.now a.begins.now a.starts.now a.lens.now a.n c.requires.book a.c c.requires.inside
-
-pub loop-x-init : goal.loop-x-init
-loop-x-init c = let a = c.args in referring_start a.commands.now a.text.now (records_of a.commands.now a.text.now) a.c _ _ _ _ (c.requires.book.records.sound a.c (inside_records a.commands.now a.text.now a.begins.now a.starts.now a.lens.now a.n c.requires.book a.c c.requires.inside)) c.requires.long c.requires.table c.requires.few
-
-pub shape_of-table-in-Missing : goal.shape_of-table-in-Missing
-shape_of-table-in-Missing c = let a = c.args in c.loop-x.invariant.holds.long ∙ sym c.requires.table.long
-
-pub shape_of-refs-in-Missing : goal.shape_of-refs-in-Missing
-shape_of-refs-in-Missing c = let a = c.args in c.loop-x.invariant.long ∙ sym c.requires.long
-
-pub returns-in-Missing : goal.returns-in-Missing
-returns-in-Missing c = let a = c.args in record { told = referring_end a.commands.now a.text.now (records_of a.commands.now a.text.now) a.c _ _ _ _ _ _ _ c.loop-x.invariant _ c.next_item.ensures c.in-Missing.is }
+pub loop-s-init : goal.loop-s-init
+loop-s-init c =
+    let a = c.args in
+    let own = c.record_at.ensures in
+    let items = c.strings-s-items.ensures in
+    let begun = c.into_iter-s-iterator.ensures.into_iter_gives in
+    referring_start a.book.now a.c c.requires.0.inside a.table.now a.refs.now a.m (omega arith) c.requires.0.table c.requires.1 _
+    (strings_are a.book.now a.c c.requires.0.inside c.record_at.result own.at own.commands own.text _ (ap (λ (it : Strings). it.record) begun ∙ items.record) _ (ap (λ (it : Strings). it.op) begun ∙ items.op))
 
 pub refer_to-requires : goal.refer_to-requires
-refer_to-requires c = let a = c.args in references_next a.commands.now a.text.now a.begins.now a.starts.now a.lens.now a.n _ _ _ _ _ _ _ a.c c.loop-x.invariant _ c.next_item.ensures c.in-At.is c.requires.book c.requires.inside _ c.string_of-s.ensures
+refer_to-requires c = (referring_next _ _ _ _ _ _ _ _ c.loop-s.invariant c.in-Some.ensures.steps.first c.requires.0.inside, c.in-Some.ensures.steps.short)
 
-pub shape_of-table-in-Refused : goal.shape_of-table-in-Refused
-shape_of-table-in-Refused c = let a = c.args in c.refer_to.auto.table ∙ (c.loop-x.invariant.holds.long ∙ sym c.requires.table.long)
+pub returns-in_err-row : goal.returns-in_err-row
+returns-in_err-row c =
+    let p = err_from_is_err_and c.from_residual.result c.from_residual.ensures.1 in
+    rw (p.1, p.2) (record { told = referring_refused _ _ _ _ _ _ _ _ c.loop-s.invariant c.in-Some.ensures.steps.first _ _ c.refer_to.ensures _ c.in_err-row.was })
 
-pub shape_of-refs-in-Refused : goal.shape_of-refs-in-Refused
-shape_of-refs-in-Refused c = let a = c.args in c.refer_to.auto.refs ∙ (c.loop-x.invariant.long ∙ sym c.requires.long)
+pub bounds-refs-count : goal.bounds-refs-count
+bounds-refs-count c = referring_room _ _ _ _ _ _ _ _ c.loop-s.invariant c.in-Some.ensures.steps.first
 
-pub returns-in-Refused : goal.returns-in-Refused
-returns-in-Refused c = let a = c.args in record { told = referring_refused a.commands.now a.text.now (records_of a.commands.now a.text.now) a.c _ _ _ _ _ _ _ c.loop-x.invariant _ c.next_item.ensures c.in-At.is _ c.string_of-s.ensures _ _ _ c.refer_to.ensures _ _ c.in-Refused.is }
+pub loop-s-preserved : goal.loop-s-preserved
+loop-s-preserved c = referring_on _ _ _ _ _ _ _ _ c.loop-s.invariant c.in-Some.ensures.steps.first _ _ c.refer_to.ensures _ c.in_ok-row.was
 
-pub overflow_add-j : goal.overflow_add-j
-overflow_add-j c = let a = c.args in omega (arith, referring_room a.commands.now a.text.now (records_of a.commands.now a.text.now) a.c _ _ _ _ _ _ _ c.loop-x.invariant _ c.next_item.ensures c.in-At.is)
-
-pub loop-x-smaller : goal.loop-x-smaller
-loop-x-smaller c = let a = c.args in referring_less a.commands.now a.text.now (records_of a.commands.now a.text.now) a.c _ _ _ _ _ _ _ c.loop-x.invariant _ c.next_item.ensures c.in-At.is
-
-pub loop-x-preserved : goal.loop-x-preserved
-loop-x-preserved c = let a = c.args in referring_on a.commands.now a.text.now (records_of a.commands.now a.text.now) a.c _ _ _ _ _ _ _ c.loop-x.invariant _ c.next_item.ensures c.in-At.is _ c.string_of-s.ensures _ _ _ c.refer_to.ensures _ c.in-Done.is
+pub returns : goal.returns
+returns c = record { told = referring_end _ _ _ _ _ _ _ _ c.loop-s.invariant c.in-None.ensures.steps.first.0 }

@@ -1,11 +1,9 @@
-use Rattle.sites.proofs.Laws.{ask_own, own_there, dir_is}
+use mathlib.Core.Path.{◌∙◌}
+use Rattle.sites.proofs.Laws.{own_there, dir_is}
 use Rattle.sites.proofs.site_dir.Goals as goal
 
-pub begin_at-requires : goal.begin_at-requires
-begin_at-requires c = let a = c.args in ask_own a.commands.now a.text.now a.begins.now c.requires.0 a.row.now c.requires.1
+pub returns-in-Some-clause-value : goal.returns-in-Some-clause-value
+returns-in-Some-clause-value c = let e = c.in-Some.ensures in c.dir.ensures.value ∙ dir_is c.args.book.now c.args.row.now c.requires c.in-Some.own e.commands e.text e.at
 
-pub returns-in_default : goal.returns-in_default
-returns-in_default c = let a = c.args in own_there a.commands.now a.text.now a.begins.now c.requires.0 a.row.now c.requires.1 _ c.begin_at.ensures c.in_default.is
-
-pub returns : goal.returns
-returns c = let a = c.args in dir_is a.commands.now a.text.now a.begins.now c.requires.0 a.row.now c.requires.1 _ c.begin_at.ensures _ c.in-At.is _ c.dir_at.ensures
+pub returns-in-None-clause-value : goal.returns-in-None-clause-value
+returns-in-None-clause-value c = own_there c.args.book.now c.args.row.now c.requires c.in-None.ensures.at

@@ -3,7 +3,7 @@
 use mathlib.Core.Path.{◌≡◌, refl, sym, ap, ◌∙◌}
 use mathlib.Core.List.{[], map, reverse, Memᴰ}
 use mathlib.Core.Bool.{Bool, true, false, ◌||◌, cond, false≢true}
-use mathlib.Core.Option.{some, none}
+use Rattle.std.specs.Prelude.{Some, None}
 use Prim.Native.Nat.{ℕ, suc, ◌<◌}
 use native.Mathlib.Omega.{arith}
 use lib.Dec.{eqb}
@@ -36,7 +36,7 @@ module _ {Val : Field → Type 0} {B : Type 0} (b : Configs Val B) (inside : (c 
   unfolding load
   refer_flat c p s r lt h q =
       let go : State Val B → Answer (Loaded Val B) = walk (load b (λ i. false)) p (reverse (b.entries p)) (b.own p) in
-      let (not-self, q₁) = unless_given (cond (eqb p c) (some 10) none) c (unless (unread (b.entries p)) p go) s q in
+      let (not-self, q₁) = unless_given (cond (eqb p c) (Some 10) None) c (unless (unread (b.entries p)) p go) s q in
       let (read, q₂) = unless_given (unread (b.entries p)) p go s q₁ in
       let (xs, st) =
       walk_step b (λ i. false) (load b (λ i. false)) (load_step b inside (free b (λ i. false)) (λ i. false)) p (reverse (b.entries p)) (inside p) []

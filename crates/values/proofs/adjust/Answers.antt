@@ -1,14 +1,10 @@
-use Rattle.values.proofs.Forms.{adjusted_led, adjusted_else}
+use Rattle.tsconfig.specs.Build.{adjusted}
 use Rattle.values.proofs.adjust.Goals as goal
 
-pub in_config_dir-requires : goal.in_config_dir-requires
-in_config_dir-requires c = c.requires.0
-
-pub returns-then-led : goal.returns-then-led
-returns-then-led c = adjusted_led _ _ c.has_config_dir-led.ensures _ _ _ _ c.if-led.true c.in_config_dir.ensures
-
-pub normalize_with-requires : goal.normalize_with-requires
-normalize_with-requires c = c.requires.1
+pub returns-then-has_config_dir : goal.returns-then-has_config_dir
+unfolding adjusted
+returns-then-has_config_dir c = rw (← c.has_config_dir.ensures, c.if-has_config_dir.true) c.in_config_dir.ensures
 
 pub returns : goal.returns
-returns c = adjusted_else _ _ c.has_config_dir-led.ensures _ _ _ _ c.if-led.false c.normalize_with.ensures
+unfolding adjusted
+returns c = rw (← c.has_config_dir.ensures, c.if-has_config_dir.false) c.normalize_with.ensures

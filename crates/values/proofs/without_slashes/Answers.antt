@@ -1,16 +1,22 @@
-use Rattle.values.proofs.Forms.{slashes_here, slashes_on, slashes_end}
-use mathlib.Core.Path.{refl}
-use native.Mathlib.Omega.{arith}
+use Rattle.std.proofs.Common.{ℕ, not, eqb, sym, ap, ◌∙◌, refl, rules, tests}
+use Rattle.std.proofs.lemmas.Iterator.{YieldsList-from_slice}
+use Rattle.std.proofs.lemmas.Iterator.Search.{position_from_yields_List}
+use Rattle.std.proofs.lemmas.Iterator.Adapters.{position_from-zero}
+use Rattle.text.specs.Bytes.{slash}
+use Rattle.text.proofs.Parts.{from_some}
+use Rattle.values.proofs.Forms.{from_place, first_kept}
 use Rattle.values.proofs.without_slashes.Goals as goal
 
-pub loop-i-init : goal.loop-i-init
-loop-i-init c = (omega arith, refl)
+pub returns-in-Some : goal.returns-in-Some
+returns-in-Some c =
+    let s = c.args.s.now in
+    let test = λ (x : ℕ). not (eqb x slash) in
+    let told = position_from_yields_List test _ _ c.position.result c.position.ensures.ran (YieldsList-from_slice s cc) (λ x b q k. search (rules, tests)) ∙ position_from-zero test s in
+    from_some s c.in-Some.i ∙ ap (from_place s) (sym c.in-Some.is ∙ told) ∙ sym (first_kept 0 s s refl)
 
-pub returns-then-s-i-ne-SLASH : goal.returns-then-s-i-ne-SLASH
-returns-then-s-i-ne-SLASH c = slashes_here _ _ c.loop-i.invariant.1 c.loop-i-test.true c.if-s-i-ne-SLASH.true _ c.from.ensures
-
-pub loop-i-preserved : goal.loop-i-preserved
-loop-i-preserved c = (omega arith, slashes_on _ _ c.loop-i.invariant.1 c.loop-i-test.true c.if-s-i-ne-SLASH.false)
-
-pub returns : goal.returns
-returns c = slashes_end _ _ c.loop-i.invariant.1 c.loop-i-test.false _ c.from-2.ensures
+pub returns-in-None : goal.returns-in-None
+returns-in-None c =
+    let s = c.args.s.now in
+    let test = λ (x : ℕ). not (eqb x slash) in
+    let told = position_from_yields_List test _ _ c.position.result c.position.ensures.ran (YieldsList-from_slice s cc) (λ x b q k. search (rules, tests)) ∙ position_from-zero test s in
+    ap (from_place s) (sym c.in-None.is ∙ told) ∙ sym (first_kept 0 s s refl)
