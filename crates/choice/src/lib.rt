@@ -1,62 +1,39 @@
 // The key of `paths` that a specifier is mapped by: the equal one, or the best wildcard.
 #![tactic(auto)]
 
-ghost use Rattle.std.specs.Prelude.{◌≡◌};
-ghost use Rattle.std.proofs.Math.Option.{none};
+ghost use Rattle.std.specs.Prelude.{◌≡◌, ◌≤◌, None, length, option_map, IfSome};
 ghost use Rattle.book.specs.Record.{keys_of};
-ghost use Rattle.book.specs.Index.{record_at};
+ghost use Rattle.record.specs.Good.{read};
+ghost use Rattle.record.specs.Lists.{key_of};
 ghost use Rattle.tsconfig.specs.Mapping.{equal_key, best_key};
-ghost use Rattle.choice.specs.Keyed.{key_at};
 
-use book::{KEY, string_of};
-use items::{Item, next_item};
 use keys::matches_at;
-use text::{Found, find_star, same_text};
+use record::{Key, Record};
+use text::find_star;
 
-// The key of the record at rec that is the specifier.
-pub fn equal_key(commands: &[u8], text: &[u8], rec: usize, spec: &[u8]) -> Item
-    ensures { key_at commands.now text.now result ≡ equal_key spec.now (keys_of text.now (record_at commands.now rec)) }
+// The key of the record that is the specifier.
+pub fn equal_key<'a>(record: &Record<'a>, spec: &[u8]) -> Option<Key<'a>>
+    ensures value { option_map key_of result ≡ equal_key spec.now (keys_of record.now.text.now (read record.now.commands.now record.now.at)) }
+    ensures short { IfSome result (λ k. length k.name.now ≤ 512) }
 {
-    let mut to = rec;
-    loop {
-        match next_item(commands, to, KEY) {
-            Item::Missing => return Item::Missing,
-            Item::At(c, next) => {
-                let key = string_of(text, c);
-                if same_text(key, spec) {
-                    return Item::At(c, next);
-                }
-                to = next;
-            }
-        }
-    }
+    record.keys().find(|key| key.name == spec)
 }
 
-// The key of the record at rec that matches the specifier and has the longest prefix before its first star, of equal ones the earliest.
-pub fn best_key(commands: &[u8], text: &[u8], rec: usize, spec: &[u8]) -> Item
-    ensures { key_at commands.now text.now result ≡ best_key spec.now none (keys_of text.now (record_at commands.now rec)) }
+// The key of the record that matches the specifier and has the longest prefix before its first star, of equal ones the earliest.
+pub fn best_key<'a>(record: &Record<'a>, spec: &[u8]) -> Option<Key<'a>>
+    ensures value { option_map key_of result ≡ best_key spec.now None (keys_of record.now.text.now (read record.now.commands.now record.now.at)) }
+    ensures short { IfSome result (λ k. length k.name.now ≤ 512) }
 {
-    let mut at = rec;
-    let mut best = Item::Missing;
+    let mut best = None;
     let mut least = 0;
-    loop {
-        match next_item(commands, at, KEY) {
-            Item::Missing => return best,
-            Item::At(c, next) => {
-                at = next;
-                let key = string_of(text, c);
-                let Found::At(star) = find_star(key) else {
-                    continue;
-                };
-                if star < least {
-                    continue;
-                }
-                if !matches_at(key, star, spec) {
-                    continue;
-                }
-                best = Item::At(c, next);
-                least = star + 1;
-            }
+    for key in record.keys() {
+        let Some(star) = find_star(key.name) else {
+            continue;
+        };
+        if least <= star && matches_at(key.name, star, spec) {
+            best = Some(key);
+            least = star + 1;
         }
     }
+    best
 }

@@ -1,111 +1,129 @@
 -- The ways out of the functions that write one field. Assumes nothing.
-use mathlib.Core.Path.{◌≡◌, refl, sym, ap, subst, ◌∙◌}
-use mathlib.Core.List.{List, [], map}
-use Prim.Native.Nat.{ℕ, ◌≤◌}
-use native.Mathlib.Omega.{arith}
-use lib.ListN.{length}
+use Rattle.std.proofs.Common.{◌≡◌, ℕ, List, [], ◌∷◌, Option, Some, None, Bor, refl, sym, ap, ◌∙◌, map}
+use Rattle.std.specs.Prelude.{option_copied}
 use Rattle.text.specs.Bytes.{Text, bytes}
-use Rattle.text.specs.declared.Found.{Found}
-use Rattle.text.specs.declared.Found.TheVariants as found
+use Rattle.text.proofs.Picks.{by_test}
 use Rattle.book.specs.declared.Cmd.{Cmd}
-use Rattle.book.specs.Command as command
+use Rattle.book.specs.Command.{key, root_dir, base_url}
 use Rattle.book.specs.Rules.{text_of}
-use Rattle.book.specs.Record.{Key, strings}
-use Rattle.book.specs.Index.{record_at}
-use Rattle.book.specs.Sound.{All, Good}
-use Rattle.items.specs.declared.Item.{Item}
-use Rattle.items.specs.declared.Item.TheVariants.{At, Missing}
-use Rattle.items.specs.Items.{item_of}
-use Rattle.items.proofs.Items.{read_from, strings_missing, strings_got, single_missing, single_got, keys_missing, keys_got}
-use Rattle.values.proofs.Reading.{dir_short}
+use Rattle.book.specs.Record.{Key, is, only, first_of, strings, single, keys_of}
+use Rattle.record.specs.Good.{read}
+use Rattle.record.specs.declared.place.Record.{Record}
 use Rattle.tsconfig.specs.Build.{adjusted}
 use Rattle.tsconfig.specs.Listing.{row, rows, items, mapping, key_rows, if_named}
-use Rattle.rows.specs.Records.{dir_of}
-use Rattle.lines.specs.Lines.{ended, built_key, built_place, built_strings, built_keys}
-use Rattle.fields.specs.Fields.{built_roots, list_at, roots_at, url_at, place_at, mapping_at, GoodAt}
+use Rattle.lines.specs.Lines.{ended, dir_of, built_key, built_place, built_strings, built_roots, built_keys}
+use Rattle.fields.specs.Fields.{list_at, roots_at, url_at, place_at, mapping_at}
 
--- Lists
+-- A list is its name alone where its record has no item, else its rows
 
-module _ (name text : Text) (op : ℕ) (f : Text → Text) (s : Text) (at : ℕ) (r : Item) (told : r ≡ item_of op (read_from s at)) where
-  pub items_none : r ≡ Missing → items name (map f (strings text op (record_at s at))) ≡ ended name
-  unfolding items
-  items_none e = ap (λ (l : List Text). items name (map f l)) (strings_missing text op s at (sym e ∙ told))
+listed_none : (name text : Text) (f : Text → Text) (l : List Cmd) → first_of (text_of text) l ≡ None → items name (map f (map (text_of text) l)) ≡ ended name
+unfolding first_of items
+listed_none name text f [] e = refl
+listed_none name text f (c ∷ l) e = absurd (cc)
 
-  pub items_some : {c : Cmd} {next : ℕ} → r ≡ At c next → items name (map f (strings text op (record_at s at))) ≡ rows name (map f (strings text op (record_at s at)))
-  unfolding items
-  items_some {c} {next} e = rw (strings_got text op s at c next (sym e ∙ told)) refl
+listed_some : (name text : Text) (f : Text → Text) (l : List Cmd) {v : Text} → first_of (text_of text) l ≡ Some v → items name (map f (map (text_of text) l)) ≡ rows name (map f (map (text_of text) l))
+unfolding first_of items
+listed_some name text f [] e = absurd (cc)
+listed_some name text f (c ∷ l) e = refl
 
-module _ (text dir base s : Text) (at : ℕ) (r : Item) (told : r ≡ item_of command.key (read_from s at)) where
-  pub mapping_none : r ≡ Missing → mapping (built_keys s text dir base at) ≡ ended (bytes "paths")
+module _ (name text : Text) (f : Text → Text) (op : ℕ) (r : List Cmd) where
+  items_none : single text op r ≡ None → items name (map f (strings text op r)) ≡ ended name
+  unfolding single strings
+  items_none e = listed_none name text f (only (is op) r) e
+
+  items_some : {v : Text} → single text op r ≡ Some v → items name (map f (strings text op r)) ≡ rows name (map f (strings text op r))
+  unfolding single strings
+  items_some e = listed_some name text f (only (is op) r) e
+
+-- The same of a mapping and its keys
+
+keys_left : (text : Text) (f : Key → Key) (r : List Cmd) → single text key r ≡ None → keys_of text r ≡ []
+unfolding single only first_of keys_of
+keys_left text f [] e = refl
+keys_left text f (c ∷ r) e = by_test (is key c) (λ t. absurd (cc)) (λ n. rw n (keys_left text f r (rw n at e)))
+
+module _ (text : Text) (f : Key → Key) (r : List Cmd) where
+  mapping_none : single text key r ≡ None → mapping (map f (keys_of text r)) ≡ ended (bytes "paths")
   unfolding mapping
-  mapping_none e = ap (λ (l : List Key). mapping (map (built_key dir base) l)) (keys_missing text s at (sym e ∙ told))
+  mapping_none e = rw (keys_left text f r e) refl
 
-  pub mapping_some : {c : Cmd} {next : ℕ} → r ≡ At c next → mapping (built_keys s text dir base at) ≡ key_rows (built_keys s text dir base at)
-  unfolding mapping
-  mapping_some {c} {next} e = rw (keys_got text s at c next (sym e ∙ told)) refl
+mapping_some : (text : Text) (f : Key → Key) (r : List Cmd) {v : Text} → single text key r ≡ Some v → mapping (map f (keys_of text r)) ≡ key_rows (map f (keys_of text r))
+unfolding single only first_of keys_of mapping
+mapping_some text f [] e = absurd (cc)
+mapping_some text f (c ∷ r) {v} e = by_test (is key c) (λ t. rw t refl) (λ n. rw n (mapping_some text f r (rw n at e)))
 
--- Where a field has no supplier, and where it has one
+-- Where a field has no supplier, and where it has one: found is the supplier, and o what it says first
 
-module _ (commands text : Text) (f : Found) where
-  module _ (e : f ≡ found.Nothing) where
-    pub list_none : (name dir : Text) (op : ℕ) → list_at commands text name dir op f ≡ []
+module _ (found : Option Record) where
+  module _ (e : found ≡ None) where
+    pub list_none : (name dir : Text) (op : ℕ) → list_at name dir op found ≡ []
     unfolding list_at
     list_none name dir op = rw e refl
 
-    pub roots_none : (dir : Text) → roots_at commands text dir f ≡ []
+    pub roots_none : (dir : Text) → roots_at dir found ≡ []
     unfolding roots_at
     roots_none dir = rw e refl
 
-    pub url_none : (dir : Text) → url_at commands text dir f ≡ []
+    pub url_none : (dir : Text) → url_at dir found ≡ []
     unfolding url_at
     url_none dir = rw e refl
 
-    pub place_none : (name dir : Text) (op : ℕ) → place_at commands text name dir op f ≡ []
+    pub place_none : (name dir : Text) (op : ℕ) → place_at name dir op found ≡ []
     unfolding place_at
     place_none name dir op = rw e refl
 
-    pub paths_none : (dir base : Text) → mapping_at commands text dir base f ≡ []
+    pub paths_none : (dir base : Text) → mapping_at dir base found ≡ []
     unfolding mapping_at
     paths_none dir base = rw e refl
 
-  module _ (rec : ℕ) (e : f ≡ found.At rec) where
-    pub good_at : GoodAt commands text f → All (Good text) (record_at commands rec)
-    good_at h = subst (GoodAt commands text) e h
+  module _ {r : Record} (e : found ≡ Some r) {o : Option (Bor Text)} (op : ℕ) (v : option_copied o ≡ single r.text.now op (read r.commands.now r.at)) where
+    missing : o ≡ None → single r.text.now op (read r.commands.now r.at) ≡ None
+    missing n = sym v ∙ ap option_copied n
 
-    pub list_at_lem : (name dir : Text) (op : ℕ) → list_at commands text name dir op f ≡ items name (built_strings commands text dir op rec)
-    unfolding list_at
-    list_at_lem name dir op = rw e refl
+    got : {x : Bor Text} → o ≡ Some x → single r.text.now op (read r.commands.now r.at) ≡ Some x.now
+    got g = sym v ∙ ap option_copied g
 
-    pub roots_at_lem : (dir : Text) → roots_at commands text dir f ≡ items (bytes "rootDir") (built_roots commands text dir rec)
-    unfolding roots_at
-    roots_at_lem dir = rw e refl
+    module _ (name dir : Text) where
+      pub list_empty : o ≡ None → ended name ≡ list_at name dir op found
+      unfolding list_at
+      list_empty n = rw e (sym (items_none name r.text.now (adjusted dir dir) op (read r.commands.now r.at) (missing n)))
 
-    pub paths_at : (dir base : Text) → mapping_at commands text dir base f ≡ mapping (built_keys commands text dir base rec)
-    unfolding mapping_at
-    paths_at dir base = rw e refl
+      pub list_full : {x : Bor Text} → o ≡ Some x → rows name (built_strings r dir op) ≡ list_at name dir op found
+      unfolding list_at
+      list_full g = rw e (sym (items_some name r.text.now (adjusted dir dir) op (read r.commands.now r.at) (got g)))
 
-    module _ (dir : Text) (r : Item) (told : r ≡ item_of command.base_url (read_from commands rec)) where
-      pub url_missing : r ≡ Missing → url_at commands text dir f ≡ []
-      unfolding url_at if_named
-      url_missing m = rw (e, single_missing text command.base_url commands rec (sym m ∙ told)) refl
-
-      pub url_got : {c : Cmd} {next : ℕ} → r ≡ At c next → (v : Text) → v ≡ text_of text c → url_at commands text dir f ≡ row (bytes "baseUrl") (adjusted dir dir v)
-      unfolding url_at if_named
-      url_got {c} {next} g v q = rw (e, single_got text command.base_url commands rec c next (sym g ∙ told), q) refl
-
-    module _ (name dir : Text) (op : ℕ) (r : Item) (told : r ≡ item_of op (read_from commands rec)) where
-      pub place_missing : r ≡ Missing → place_at commands text name dir op f ≡ []
+      pub place_missing : o ≡ None → place_at name dir op found ≡ []
       unfolding place_at if_named
-      place_missing m = rw (e, single_missing text op commands rec (sym m ∙ told)) refl
+      place_missing n = rw (e, missing n) refl
 
-      pub place_got : {c : Cmd} {next : ℕ} → r ≡ At c next → (v : Text) → v ≡ text_of text c → (own : Text) → own ≡ dir_of text (record_at commands rec) → place_at commands text name dir op f ≡ row name (built_place dir own v)
+      pub place_got : {x : Bor Text} → o ≡ Some x → row name (built_place dir (dir_of r) x.now) ≡ place_at name dir op found
       unfolding place_at if_named
-      place_got {c} {next} g v q own w = rw (e, single_got text op commands rec c next (sym g ∙ told), q, w) refl
+      place_got g = rw (e, got g) refl
 
--- the directory of a good record
-pub own_short : (commands text : Text) (rec : ℕ) (own : Text) → own ≡ dir_of text (record_at commands rec) → All (Good text) (record_at commands rec) → length own ≤ 512
-own_short commands text rec own e h = omega (arith, ap length e, dir_short text (record_at commands rec) h)
+  module _ {r : Record} (e : found ≡ Some r) {o : Option (Bor Text)} (dir : Text) where
+    module _ (v : option_copied o ≡ single r.text.now root_dir (read r.commands.now r.at)) where
+      pub roots_empty : o ≡ None → ended (bytes "rootDir") ≡ roots_at dir found
+      unfolding roots_at
+      roots_empty n = rw e (sym (items_none (bytes "rootDir") r.text.now (built_place dir (dir_of r)) root_dir (read r.commands.now r.at) (missing e root_dir v n)))
 
--- its root dirs
-pub roots_own : (commands text dir : Text) (rec : ℕ) (own : Text) → own ≡ dir_of text (record_at commands rec) → rows (bytes "rootDir") (built_roots commands text dir rec) ≡ rows (bytes "rootDir") (map (built_place dir own) (strings text command.root_dir (record_at commands rec)))
-roots_own commands text dir rec own e = rw e refl
+      pub roots_full : {x : Bor Text} → o ≡ Some x → rows (bytes "rootDir") (built_roots r dir) ≡ roots_at dir found
+      unfolding roots_at
+      roots_full g = rw e (sym (items_some (bytes "rootDir") r.text.now (built_place dir (dir_of r)) root_dir (read r.commands.now r.at) (got e root_dir v g)))
+
+    module _ (v : option_copied o ≡ single r.text.now base_url (read r.commands.now r.at)) where
+      pub url_missing : o ≡ None → url_at dir found ≡ []
+      unfolding url_at if_named
+      url_missing n = rw (e, missing e base_url v n) refl
+
+      pub url_got : {x : Bor Text} → o ≡ Some x → row (bytes "baseUrl") (adjusted dir dir x.now) ≡ url_at dir found
+      unfolding url_at if_named
+      url_got g = rw (e, got e base_url v g) refl
+
+    module _ (base : Text) (v : option_copied o ≡ single r.text.now key (read r.commands.now r.at)) where
+      pub paths_empty : o ≡ None → ended (bytes "paths") ≡ mapping_at dir base found
+      unfolding mapping_at
+      paths_empty n = rw e (sym (mapping_none r.text.now (built_key dir base) (read r.commands.now r.at) (missing e key v n)))
+
+      pub paths_full : {x : Bor Text} → o ≡ Some x → key_rows (built_keys r dir base) ≡ mapping_at dir base found
+      unfolding mapping_at
+      paths_full g = rw e (sym (mapping_some r.text.now (built_key dir base) (read r.commands.now r.at) (got e key v g)))

@@ -1,33 +1,69 @@
--- The ways out of the functions that write one line. Assumes nothing.
-use mathlib.Core.Path.{◌≡◌, refl, sym, ap, subst, ◌∙◌}
-use mathlib.Core.List.{[], ◌++◌}
-use Prim.Native.Nat.{ℕ}
-use lib.ListN.{take}
+-- What one turn of a loop over lines writes, and what is left. Assumes nothing.
+use Rattle.std.proofs.Common.{◌≡◌, ℕ, List, [], ◌∷◌, ◌++◌, map, Option, Some, None, Bor, refl, subst}
+use Rattle.std.specs.Iterator.{YieldsFirstRef, YieldsFirstBy}
+use mathlib.Core.Path.{sym}
+use mathlib.Core.List.{append_assoc}
 use Rattle.text.specs.Bytes.{Text, bytes}
-use Rattle.emit.specs.Emit.{Room, Emits, Holds}
-use Rattle.emit.proofs.Emits.{emits_none}
-use Rattle.book.specs.declared.Cmd.{Cmd}
-use Rattle.book.specs.Rules.{text_of}
-use Rattle.tsconfig.specs.Listing.{row, rows}
-use Rattle.lines.specs.Lines.{key_text, built_targets}
+use Rattle.emit.specs.Emit.{Room}
+use Rattle.emit.specs.Output.{Puts}
+use Rattle.emit.specs.declared.Output.{Output}
+use Rattle.emit.proofs.Outputs.{puts_none}
+use Rattle.book.specs.Record.{Key}
+use Rattle.record.specs.Lists.{strings_left, targets_left, keys_left, key_of, NextString, NextTarget, NextKey}
+use Rattle.record.specs.declared.lists.Strings.{Strings}
+use Rattle.record.specs.declared.lists.Targets.{Targets}
+use Rattle.record.specs.declared.lists.Keys.{Keys}
+use Rattle.record.specs.declared.lists.Key as lists
+use Rattle.tsconfig.specs.Listing.{row, rows, key_rows}
+use Rattle.lines.specs.Lines.{built_key, key_text}
 
--- The same text otherwise said
+-- nothing is written
+pub puts_nothing : (x : Text) (o : Output) → x ≡ [] → Puts x o o
+puts_nothing x o e = rw e (puts_none o)
 
-module _ {x y : Text} (at : ℕ) (e : x ≡ y) where
-  pub room_as : Room at x → Room at y
-  room_as h = subst (Room at) e h
+-- the same text otherwise said
+pub room_as : {x y : Text} {at : ℕ} → x ≡ y → Room at x → Room at y
+room_as {x} {y} {at} e h = subst (Room at) e h
 
-  pub emits_as : (o u : Text) (r : ℕ) → Emits y o at u r → Emits x o at u r
-  emits_as o u r p = rw e p
+module _ (name : Text) {l : List Text} where
+  pub rows_end : l ≡ [] → rows name l ≡ []
+  unfolding rows
+  rows_end e = rw e refl
 
-pub emits_nothing : (x o : Text) (at : ℕ) → x ≡ [] → Emits x o at o at
-emits_nothing x o at e = rw e (emits_none o at)
+  pub rows_turn : {v : Text} {vs : List Text} → l ≡ v ∷ vs → rows name l ≡ row name v ++ rows name vs
+  unfolding rows
+  rows_turn e = rw e refl
 
--- a value that a buffer holds
-module _ (name x v o : Text) (n : ℕ) (h : Holds n o x) (e : v ≡ take n o) where
-  pub row_held : row name x ≡ row name v
-  row_held = ap (row name) (sym (e ∙ h.bytes))
+-- the lines of a key, and then of the others
+pub keys_end : (l : List Key) → l ≡ [] → key_rows l ≡ []
+unfolding key_rows
+keys_end l e = rw e refl
 
--- a key and its targets
-pub key_as : (commands text dir base : Text) (c : Cmd) (next : ℕ) (v : Text) → v ≡ text_of text c → key_text commands text dir base c next ≡ row (bytes "key") v ++ rows (bytes "target") (built_targets commands text dir base next)
-key_as commands text dir base c next v e = rw e refl
+pub keys_turn : (dir base : Text) {l : List Key} {k : Key} {ks : List Key} → l ≡ k ∷ ks → key_rows (map (built_key dir base) l) ≡ key_text dir base k ++ key_rows (map (built_key dir base) ks)
+unfolding key_rows
+keys_turn dir base {l} {k} {ks} e =
+    let key : Key = built_key dir base k in
+    rw e (sym (append_assoc (row (bytes "key") k.key) (rows (bytes "target") key.targets) (key_rows (map (built_key dir base) ks))))
+
+-- what a call of next gave is the first of what was left
+
+module _ {s : Strings} {r : Option (Bor Text)} {t : Strings} (n : NextString s r t) where
+  pub first_string : {x : Bor Text} → r ≡ Some x → strings_left s ≡ x.now ∷ strings_left t
+  first_string {x} e = subst (λ (o : Option (Bor Text)). YieldsFirstRef strings_left s o t) e n.first
+
+  pub last_string : r ≡ None → strings_left s ≡ []
+  last_string e = (subst (λ (o : Option (Bor Text)). YieldsFirstRef strings_left s o t) e n.first).0
+
+module _ {s : Targets} {r : Option (Bor Text)} {t : Targets} (n : NextTarget s r t) where
+  pub first_target : {x : Bor Text} → r ≡ Some x → targets_left s ≡ x.now ∷ targets_left t
+  first_target {x} e = subst (λ (o : Option (Bor Text)). YieldsFirstRef targets_left s o t) e n.first
+
+  pub last_target : r ≡ None → targets_left s ≡ []
+  last_target e = (subst (λ (o : Option (Bor Text)). YieldsFirstRef targets_left s o t) e n.first).0
+
+module _ {s : Keys} {r : Option lists.Key} {t : Keys} (n : NextKey s r t) where
+  pub first_key : {x : lists.Key} → r ≡ Some x → keys_left s ≡ key_of x ∷ keys_left t
+  first_key {x} e = subst (λ (o : Option lists.Key). YieldsFirstBy key_of keys_left s o t) e n.first
+
+  pub last_key : r ≡ None → keys_left s ≡ []
+  last_key e = (subst (λ (o : Option lists.Key). YieldsFirstBy key_of keys_left s o t) e n.first).0

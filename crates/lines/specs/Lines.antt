@@ -1,10 +1,11 @@
--- The lines of a record's items, as the functions that write them have them: read from the offset at which that record begins, and as built.
+-- The lines of a record's items, as the functions that write them have them: as built.
 use Rattle.std.specs.Prelude.{ℕ, List, [], ◌∷◌, ◌++◌, map}
 use Rattle.text.specs.Bytes.{Text, bytes}
-use Rattle.book.specs.declared.Cmd.{Cmd}
-use Rattle.book.specs.Record.{Key, strings, targets_of, keys_of}
-use Rattle.book.specs.Rules.{text_of}
-use Rattle.book.specs.Index.{record_at}
+use Rattle.ends.specs.Ends.{parent_of}
+use Rattle.book.specs.Command.{root_dir}
+use Rattle.book.specs.Record.{Key, strings, keys_of, record_path_of}
+use Rattle.record.specs.Good.{read}
+use Rattle.record.specs.declared.place.Record.{Record}
 use Rattle.tsconfig.specs.Parsed.{placed}
 use Rattle.tsconfig.specs.Build.{substituted, adjusted}
 use Rattle.tsconfig.specs.Listing.{row, rows}
@@ -25,19 +26,23 @@ built_key dir base k = record { key = k.key; targets = map (adjusted dir base) k
 abbrev pub built_place : Text → Text → Text → Text
 built_place dir own s = substituted dir (placed own s)
 
-module _ (commands text : Text) where
-  -- the strings with the byte in the record that begins at the offset, as built
-  abbrev pub built_strings : Text → ℕ → ℕ → List Text
-  built_strings dir op rec = map (adjusted dir dir) (strings text op (record_at commands rec))
+-- the lines of one key, with its targets as built
+abbrev pub key_text : Text → Text → Key → Text
+key_text dir base k = row (bytes "key") k.key ++ rows (bytes "target") (map (adjusted dir base) k.targets)
 
-  -- its targets that follow, as built
-  abbrev pub built_targets : Text → Text → ℕ → List Text
-  built_targets dir base rec = map (adjusted dir base) (targets_of text (record_at commands rec))
+module _ (r : Record) where
+  -- the record's directory
+  abbrev pub dir_of : Text
+  dir_of = parent_of (record_path_of r.text.now (read r.commands.now r.at))
+
+  -- its strings with the byte, as built
+  abbrev pub built_strings : Text → ℕ → List Text
+  built_strings dir op = map (adjusted dir dir) (strings r.text.now op (read r.commands.now r.at))
+
+  -- its root dirs, as built
+  abbrev pub built_roots : Text → List Text
+  built_roots dir = map (built_place dir dir_of) (strings r.text.now root_dir (read r.commands.now r.at))
 
   -- its keys, as built
-  abbrev pub built_keys : Text → Text → ℕ → List Key
-  built_keys dir base rec = map (built_key dir base) (keys_of text (record_at commands rec))
-
-  -- the lines of one key
-  abbrev pub key_text : Text → Text → Cmd → ℕ → Text
-  key_text dir base c next = row (bytes "key") (text_of text c) ++ rows (bytes "target") (built_targets dir base next)
+  abbrev pub built_keys : Text → Text → List Key
+  built_keys dir base = map (built_key dir base) (keys_of r.text.now (read r.commands.now r.at))

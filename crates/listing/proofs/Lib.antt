@@ -1,4 +1,3 @@
-pub mod Turns
-pub mod Joins
+-- Laws of the definitions of specs/.
 pub mod Sizes
 pub mod Whole

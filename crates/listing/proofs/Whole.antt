@@ -1,24 +1,22 @@
 -- The listing of a row of suppliers is what its suppliers say, field by field. Assumes nothing.
-use mathlib.Core.Path.{◌≡◌, refl, sym, ap, ap₂, subst, ◌∙◌}
-use mathlib.Core.List.{List, [], ◌∷◌, ◌++◌, map}
-use mathlib.Core.Bool.{Bool, true, true≢false}
-use mathlib.Core.Option
-use mathlib.Core.Option.{Option, some, none}
-use Prim.Native.Nat.{ℕ, zero, suc, ◌+◌, ◌^◌, ◌≤◌, ◌<◌}
+use mathlib.Core.Path.{◌≡◌, refl, sym, ap, ◌∙◌}
+use mathlib.Core.List.{List, [], ◌∷◌, ◌++◌, map, append_assoc, append-nil}
+use mathlib.Core.Bool.{true, true≢false}
+use Rattle.std.specs.Prelude.{Option, Some, None, option_map, IfSome}
+use Prim.Native.Nat.{ℕ, zero, suc, ◌+◌, ◌*◌, ◌≤◌, ◌<◌}
 use native.Mathlib.Omega.{arith}
-use lib.ListN.{length, get_or}
+use lib.ListN.{length, get_or, length-append}
 use Rattle.text.specs.Bytes.{Text, bytes}
 use Rattle.text.specs.Text.{some_of}
-use Rattle.text.specs.declared.Found.{Found}
-use Rattle.text.specs.declared.Found.TheVariants.{At, Nothing}
 use Rattle.path.specs.Path.{is_some}
 use Rattle.text.proofs.Picks.{by_test}
+use Rattle.ends.specs.Ends.{parent_of}
 use Rattle.book.specs.declared.Cmd.{Cmd}
 use Rattle.book.specs.Command as command
 use Rattle.book.specs.Record as fields
-use Rattle.book.specs.Record.{is, strings, single, listed, keys_of, option_of, flag_of}
-use Rattle.book.specs.Index as index
-use Rattle.book.specs.Sound.{All, Good}
+use Rattle.book.specs.Record.{is, strings, single, listed, keys_of}
+use Rattle.record.specs.Good.{read}
+use Rattle.record.specs.declared.place.Record.{Record}
 use Rattle.tsconfig.specs.Config as config
 use Rattle.tsconfig.specs.Config.{Field}
 use Rattle.tsconfig.specs.Parsed.{said, placed, placed_value}
@@ -26,230 +24,349 @@ use Rattle.tsconfig.specs.Build.{Settings, adjusted, substituted, built_value}
 use Rattle.tsconfig.specs.Listing as listings
 use Rattle.tsconfig.specs.Listing.{rows, items, if_named, flag_row, text_row, flags, texts, listing}
 use Rattle.tsconfig_resolver.specs.Find.{record_at}
-use Rattle.values.proofs.Reading.{dir_short}
-use Rattle.rows.specs.Rows.{absent, slot, supplier, number_of, site_of, Row, begin_at}
-use Rattle.rows.specs.Records.{records_of, dir_of, Records}
-use Rattle.rows.proofs.Lists.{get_d_any}
-use Rattle.rows.proofs.Fields.{slot_of_flag, slot_of_text, plain, found_place, found_rec, record_references, record_says, supplier_there, row_begin, place_sound, own_sound, site_none, site_at_lem, site_plain}
+use Rattle.rows.specs.Rows.{slot, own_place, supplier, number_of, site_of, Row, begin_at}
+use Rattle.rows.specs.Records.{dir_of}
+use Rattle.rows.specs.Checked.{records_in}
+use Rattle.rows.specs.declared.CheckedBook.{CheckedBook}
+use Rattle.rows.proofs.Fields.{plain, found_place, found_rec, found_none, record_references, record_says, supplier_there, place_there, place_good, site_path}
 use Rattle.lines.specs.Lines.{built_place}
-use Rattle.fields.specs.Fields.{list_at, roots_at, url_at, place_at, mapping_at, GoodAt}
-use Rattle.options.specs.Options.{flag_at, text_at, flags_from, texts_from, options_part}
-use Rattle.listing.specs.Parts.{Lent, places_part, mapping_part, base_part, whole_part}
-use Rattle.listing.proofs.Sizes.{whole_size, whole_room}
-use Rattle.emit.specs.Emit.{Room, Emits}
+use Rattle.fields.specs.Fields.{list_at, roots_at, url_at, place_at, mapping_at}
+use Rattle.options.specs.Options.{options_part}
+use Rattle.options.proofs.Suppliers.{Supplied, config_in, none_at, some_at, plain_at, text_named}
+use Rattle.listing.specs.Parts.{lists_part, places_part, base_part}
+use Rattle.listing.proofs.Sizes.{Fits, row_length, references_size, list_size, roots_size, url_size, place_size, mapping_size, text_size, flag_line}
+use Rattle.emit.specs.Emit.{Room}
 
 -- Options
 
-some_map : {A C : Type 0} (g : A → C) (o : Option A) → is_some (Option.map g o) ≡ is_some o
+some_map : {A C : Type 0} (g : A → C) (o : Option A) → is_some (option_map g o) ≡ is_some o
 unfolding is_some
-some_map g none = refl
-some_map g (some a) = refl
+some_map g None = refl
+some_map g (Some a) = refl
 
 map_twice : (f g : Text → Text) (l : List Text) → map g (map f l) ≡ map (λ v. g (f v)) l
 map_twice f g [] = refl
 map_twice f g (x ∷ l) = ap (λ (m : List Text). g (f x) ∷ m) (map_twice f g l)
 
-both : {a b x y : Text} → a ≡ b → x ≡ y → a ++ x ≡ b ++ y
-both {a} {b} {x} {y} e f = ap₂ (λ (u v : Text). u ++ v) e f
-
 -- What a supplier that names a list or a mapping says
 
 module _ (text : Text) (r : List Cmd) where
-  listed_there : (mark item : ℕ) → is_some (listed text mark item r) ≡ true → listed text mark item r ≡ some (strings text item r)
+  listed_there : (mark item : ℕ) → is_some (listed text mark item r) ≡ true → listed text mark item r ≡ Some (strings text item r)
   unfolding listed is_some
   listed_there mark item h = by_test (some_of (is mark) r) (λ t. rw t refl) (λ f. absurd (true≢false (sym (rw f at h))))
 
-  mapping_there : is_some (fields.mapping text r) ≡ true → fields.mapping text r ≡ some (keys_of text r)
+  mapping_there : is_some (fields.mapping text r) ≡ true → fields.mapping text r ≡ Some (keys_of text r)
   unfolding fields.mapping is_some
   mapping_there h = by_test (some_of (is command.paths) r) (λ t. rw t refl) (λ f. absurd (true≢false (sym (rw f at h))))
 
 -- Built values
 
 module _ (dir base : Text) where
-  built_url : (o : Option Text) → Option.map (built_value dir base config.base_url) o ≡ Option.map (adjusted dir dir) o
+  built_url : (o : Option Text) → option_map (built_value dir base config.base_url) o ≡ option_map (adjusted dir dir) o
   unfolding built_value
-  built_url none = refl
-  built_url (some v) = refl
+  built_url None = refl
+  built_url (Some v) = refl
 
-  built_out : (own : Text) (o : Option Text) → Option.map (built_value dir base config.out_dir) (Option.map (placed_value own config.out_dir) o) ≡ Option.map (built_place dir own) o
+  built_out : (own : Text) (o : Option Text) → option_map (built_value dir base config.out_dir) (option_map (placed_value own config.out_dir) o) ≡ option_map (built_place dir own) o
   unfolding built_value placed_value
-  built_out own none = refl
-  built_out own (some v) = refl
+  built_out own None = refl
+  built_out own (Some v) = refl
 
-  built_declarations : (own : Text) (o : Option Text) → Option.map (built_value dir base config.declaration_dir) (Option.map (placed_value own config.declaration_dir) o) ≡ Option.map (built_place dir own) o
+  built_declarations : (own : Text) (o : Option Text) → option_map (built_value dir base config.declaration_dir) (option_map (placed_value own config.declaration_dir) o) ≡ option_map (built_place dir own) o
   unfolding built_value placed_value
-  built_declarations own none = refl
-  built_declarations own (some v) = refl
+  built_declarations own None = refl
+  built_declarations own (Some v) = refl
 
-  built_flag : (id : ℕ) (o : Option Bool) → Option.map (built_value dir base (config.flag id)) o ≡ o
-  unfolding built_value
-  built_flag id none = refl
-  built_flag id (some v) = refl
+-- A listing by its parts
 
-  built_text : (id : ℕ) (o : Option Text) → Option.map (built_value dir base (config.text id)) o ≡ o
-  unfolding built_value
-  built_text id none = refl
-  built_text id (some v) = refl
+pub by_parts : (references : List Text) (c : Settings) → listing references c ≡ lists_part c ++ base_part references c
+unfolding listing lists_part base_part places_part options_part
+by_parts references c =
+    let a = if_named (items (bytes "files")) (c.named config.files) in
+    let b = if_named (items (bytes "include")) (c.named config.include) in
+    let d = if_named (items (bytes "exclude")) (c.named config.exclude) in
+    let e = if_named (listings.row (bytes "baseUrl")) (c.named config.base_url) in
+    let z = base_part references c in
+    sym (append_assoc a (b ++ (d ++ e)) z ∙ ap (λ (t : Text). a ++ t) (append_assoc b (d ++ e) z ∙ ap (λ (t : Text). b ++ t) (append_assoc d e z)))
 
-module _ (commands text : Text) (begins : List ℕ) (b : Records commands text begins) (row : List ℕ) (w : Row (records_of commands text) row) where
-  -- What the code is lent
-
-  good_place : (k : ℕ) → k < 28 → (x : Found) → x ≡ begin_at begins row k → GoodAt commands text x
-  good_place k l Nothing e = tt
-  good_place k l (At rec) e = (place_sound commands text begins b row w k rec l e).each
-
-  pub lent : Lent commands text begins row
-  lent = record {
-    reaches = record { long = w.long; within = λ k l. (row_begin commands text begins b row w k l).1 };
-    good = λ k l. good_place k l (begin_at begins row k) refl;
-  }
-
-  said_there : (f : Field) (rec : ℕ) → At rec ≡ begin_at begins row (slot f) → is_some (said text (index.record_at commands rec) f) ≡ true
-  said_there f rec e =
-      let n = found_place begins row (slot f) rec e in
+module _ (b : CheckedBook) (row : List ℕ) (w : Row (records_in b) row) where
+  said_there : (f : Field) (r : Record) → Supplied b row (slot f) (Some r) → is_some (said r.text.now (read r.commands.now r.at) f) ≡ true
+  said_there f r s =
+      let n = found_place b.begins.now row (slot f) r.at s.at in
       let i = supplier row f in
-      let r = index.record_at commands (get_or begins i 0) in
-      ap (λ (j : ℕ). is_some (said text (index.record_at commands j) f)) (found_rec begins row (slot f) rec e)
-      ∙ sym (some_map (placed_value (dir_of text r) f) (said text r f))
-      ∙ sym (ap is_some (record_says commands text begins b i (supplier_there commands text begins b row w f n) f))
-      ∙ w.named f n
+      let l = read b.commands.now (get_or b.begins.now i 0) in
+      let ce : r.commands.now ≡ b.commands.now = s.commands in
+      let te : r.text.now ≡ b.paths.text.now = s.text in
+      rw (ce, te, found_rec b.begins.now row (slot f) r.at s.at)
+      (sym (some_map (placed_value (dir_of b.paths.text.now l) f) (said b.paths.text.now l f))
+      ∙ sym (ap is_some (record_says b.commands.now b.paths.text.now b.begins.now b.records i (supplier_there b.commands.now b.paths.text.now b.begins.now b.records row w f n) f))
+      ∙ w.named f n)
 
-  module _ (dir : Text) (d : dir ≡ dir_of text (index.record_at commands (get_or begins (number_of row) 0))) (base : Text) (s : base ≡ (site_of (records_of commands text) row).config.base) where
-    abbrev c : Settings
-    c = (site_of (records_of commands text) row).config
+  -- The row's own record
 
-    none_at : (f : Field) → Nothing ≡ begin_at begins row (slot f) → c.named f ≡ none
-    none_at f e = site_none commands text begins b row w dir d base s f e
+  pub own_there : {X : Type 0} → None ≡ begin_at b.begins.now row own_place → X
+  own_there e = absurd (omega (arith, found_none b.begins.now row own_place e, w.own, b.records.few))
 
-    some_at : (f : Field) (rec : ℕ) → At rec ≡ begin_at begins row (slot f) → c.named f ≡ Option.map (built_value dir base f) (Option.map (placed_value (dir_of text (index.record_at commands rec)) f) (said text (index.record_at commands rec) f))
-    some_at f rec e = site_at_lem commands text begins b row w dir d base s f rec e
+  module _ (r : Record) (s : Supplied b row own_place (Some r)) where
+    pub own_dir : parent_of (fields.record_path_of r.text.now (read r.commands.now r.at)) ≡ parent_of (site_of (records_in b) row).path
+    own_dir =
+        let ce : r.commands.now ≡ b.commands.now = s.commands in
+        let te : r.text.now ≡ b.paths.text.now = s.text in
+        rw (ce, te, found_rec b.begins.now row own_place r.at s.at) (ap parent_of (sym (site_path b.commands.now b.paths.text.now b.begins.now b.records row w)))
 
-    plain_at : (f : Field) → plain f ≡ true → (rec : ℕ) → At rec ≡ begin_at begins row (slot f) → c.named f ≡ Option.map (built_value dir base f) (said text (index.record_at commands rec) f)
-    plain_at f p rec e = site_plain commands text begins b row w dir d base s f p rec e
+    pub own_references : strings r.text.now command.reference (read r.commands.now r.at) ≡ (record_at (records_in b) (number_of row)).references
+    own_references =
+        let ce : r.commands.now ≡ b.commands.now = s.commands in
+        let te : r.text.now ≡ b.paths.text.now = s.text in
+        rw (ce, te, found_rec b.begins.now row own_place r.at s.at) (sym (record_references b.commands.now b.paths.text.now b.begins.now b.records (number_of row) w.own))
 
-    files_part : (x : Found) → x ≡ begin_at begins row 0 → if_named (items (bytes "files")) (c.named config.files) ≡ list_at commands text (bytes "files") dir command.file x
+  -- The fields
+
+  module _ (dir : Text) (d : dir ≡ parent_of (site_of (records_in b) row).path) (base : Text) (bs : base ≡ (config_in b row).base) where
+    pub files_part : (x : Option Record) → Supplied b row 0 x → if_named (items (bytes "files")) ((config_in b row).named config.files) ≡ list_at (bytes "files") dir command.file x
     unfolding if_named list_at slot plain built_value said
-    files_part Nothing e = ap (if_named (items (bytes "files"))) (none_at config.files e)
-    files_part (At rec) e = ap (if_named (items (bytes "files"))) (plain_at config.files refl rec e ∙ ap (Option.map (built_value dir base config.files)) (listed_there text (index.record_at commands rec) command.files command.file (said_there config.files rec e)))
+    files_part None s = ap (if_named (items (bytes "files"))) (none_at b row w dir d base bs config.files s)
+    files_part (Some r) s =
+        ap (if_named (items (bytes "files")))
+        (plain_at b row w dir d base bs config.files refl r s
+        ∙ ap (option_map (built_value dir base config.files)) (listed_there r.text.now (read r.commands.now r.at) command.files command.file (said_there config.files r s)))
 
-    include_part : (x : Found) → x ≡ begin_at begins row 1 → if_named (items (bytes "include")) (c.named config.include) ≡ list_at commands text (bytes "include") dir command.include_item x
+    pub include_part : (x : Option Record) → Supplied b row 1 x → if_named (items (bytes "include")) ((config_in b row).named config.include) ≡ list_at (bytes "include") dir command.include_item x
     unfolding if_named list_at slot plain built_value said
-    include_part Nothing e = ap (if_named (items (bytes "include"))) (none_at config.include e)
-    include_part (At rec) e = ap (if_named (items (bytes "include"))) (plain_at config.include refl rec e ∙ ap (Option.map (built_value dir base config.include)) (listed_there text (index.record_at commands rec) command.include command.include_item (said_there config.include rec e)))
+    include_part None s = ap (if_named (items (bytes "include"))) (none_at b row w dir d base bs config.include s)
+    include_part (Some r) s =
+        ap (if_named (items (bytes "include")))
+        (plain_at b row w dir d base bs config.include refl r s
+        ∙ ap (option_map (built_value dir base config.include)) (listed_there r.text.now (read r.commands.now r.at) command.include command.include_item (said_there config.include r s)))
 
-    exclude_part : (x : Found) → x ≡ begin_at begins row 2 → if_named (items (bytes "exclude")) (c.named config.exclude) ≡ list_at commands text (bytes "exclude") dir command.exclude_item x
+    pub exclude_part : (x : Option Record) → Supplied b row 2 x → if_named (items (bytes "exclude")) ((config_in b row).named config.exclude) ≡ list_at (bytes "exclude") dir command.exclude_item x
     unfolding if_named list_at slot plain built_value said
-    exclude_part Nothing e = ap (if_named (items (bytes "exclude"))) (none_at config.exclude e)
-    exclude_part (At rec) e = ap (if_named (items (bytes "exclude"))) (plain_at config.exclude refl rec e ∙ ap (Option.map (built_value dir base config.exclude)) (listed_there text (index.record_at commands rec) command.exclude command.exclude_item (said_there config.exclude rec e)))
+    exclude_part None s = ap (if_named (items (bytes "exclude"))) (none_at b row w dir d base bs config.exclude s)
+    exclude_part (Some r) s =
+        ap (if_named (items (bytes "exclude")))
+        (plain_at b row w dir d base bs config.exclude refl r s
+        ∙ ap (option_map (built_value dir base config.exclude)) (listed_there r.text.now (read r.commands.now r.at) command.exclude command.exclude_item (said_there config.exclude r s)))
 
-    url_part : (x : Found) → x ≡ begin_at begins row 3 → if_named (listings.row (bytes "baseUrl")) (c.named config.base_url) ≡ url_at commands text dir x
+    pub url_part : (x : Option Record) → Supplied b row 3 x → if_named (listings.row (bytes "baseUrl")) ((config_in b row).named config.base_url) ≡ url_at dir x
     unfolding if_named url_at slot plain said
-    url_part Nothing e = ap (if_named (listings.row (bytes "baseUrl"))) (none_at config.base_url e)
-    url_part (At rec) e = ap (if_named (listings.row (bytes "baseUrl"))) (plain_at config.base_url refl rec e ∙ built_url dir base (single text command.base_url (index.record_at commands rec)))
+    url_part None s = ap (if_named (listings.row (bytes "baseUrl"))) (none_at b row w dir d base bs config.base_url s)
+    url_part (Some r) s =
+        ap (if_named (listings.row (bytes "baseUrl"))) (plain_at b row w dir d base bs config.base_url refl r s ∙ built_url dir base (single r.text.now command.base_url (read r.commands.now r.at)))
 
-    paths_part : (x : Found) → x ≡ begin_at begins row 4 → if_named listings.mapping (c.named config.paths) ≡ mapping_at commands text dir base x
+    pub paths_part : (x : Option Record) → Supplied b row 4 x → if_named listings.mapping ((config_in b row).named config.paths) ≡ mapping_at dir base x
     unfolding if_named mapping_at slot plain built_value said
-    paths_part Nothing e = ap (if_named listings.mapping) (none_at config.paths e)
-    paths_part (At rec) e = ap (if_named listings.mapping) (plain_at config.paths refl rec e ∙ ap (Option.map (built_value dir base config.paths)) (mapping_there text (index.record_at commands rec) (said_there config.paths rec e)))
+    paths_part None s = ap (if_named listings.mapping) (none_at b row w dir d base bs config.paths s)
+    paths_part (Some r) s =
+        ap (if_named listings.mapping)
+        (plain_at b row w dir d base bs config.paths refl r s
+        ∙ ap (option_map (built_value dir base config.paths)) (mapping_there r.text.now (read r.commands.now r.at) (said_there config.paths r s)))
 
-    roots_part : (x : Found) → x ≡ begin_at begins row 5 → if_named (items (bytes "rootDir")) (c.named config.root_dirs) ≡ roots_at commands text dir x
+    pub roots_part : (x : Option Record) → Supplied b row 5 x → if_named (items (bytes "rootDir")) ((config_in b row).named config.root_dirs) ≡ roots_at dir x
     unfolding if_named roots_at slot built_value placed_value said
-    roots_part Nothing e = ap (if_named (items (bytes "rootDir"))) (none_at config.root_dirs e)
-    roots_part (At rec) e =
-        let r = index.record_at commands rec in
-        let own = dir_of text r in
-        ap (if_named (items (bytes "rootDir"))) (some_at config.root_dirs rec e ∙ ap (λ (o : Option (List Text)). Option.map (built_value dir base config.root_dirs) (Option.map (placed_value own config.root_dirs) o)) (listed_there text r command.root_dirs command.root_dir (said_there config.root_dirs rec e)))
-        ∙ ap (items (bytes "rootDir")) (map_twice (placed own) (substituted dir) (strings text command.root_dir r))
+    roots_part None s = ap (if_named (items (bytes "rootDir"))) (none_at b row w dir d base bs config.root_dirs s)
+    roots_part (Some r) s =
+        let l = read r.commands.now r.at in
+        let own = dir_of r.text.now l in
+        ap (if_named (items (bytes "rootDir"))) (some_at b row w dir d base bs config.root_dirs r s ∙ ap (λ (o : Option (List Text)). option_map (built_value dir base config.root_dirs) (option_map (placed_value own config.root_dirs) o)) (listed_there r.text.now l command.root_dirs command.root_dir (said_there config.root_dirs r s)))
+        ∙ ap (items (bytes "rootDir")) (map_twice (placed own) (substituted dir) (strings r.text.now command.root_dir l))
 
-    out_part : (x : Found) → x ≡ begin_at begins row 6 → if_named (listings.row (bytes "outDir")) (c.named config.out_dir) ≡ place_at commands text (bytes "outDir") dir command.out_dir x
+    pub out_part : (x : Option Record) → Supplied b row 6 x → if_named (listings.row (bytes "outDir")) ((config_in b row).named config.out_dir) ≡ place_at (bytes "outDir") dir command.out_dir x
     unfolding if_named place_at slot said
-    out_part Nothing e = ap (if_named (listings.row (bytes "outDir"))) (none_at config.out_dir e)
-    out_part (At rec) e = ap (if_named (listings.row (bytes "outDir"))) (some_at config.out_dir rec e ∙ built_out dir base (dir_of text (index.record_at commands rec)) (single text command.out_dir (index.record_at commands rec)))
+    out_part None s = ap (if_named (listings.row (bytes "outDir"))) (none_at b row w dir d base bs config.out_dir s)
+    out_part (Some r) s =
+        let l = read r.commands.now r.at in
+        ap (if_named (listings.row (bytes "outDir"))) (some_at b row w dir d base bs config.out_dir r s ∙ built_out dir base (dir_of r.text.now l) (single r.text.now command.out_dir l))
 
-    declarations_part : (x : Found) → x ≡ begin_at begins row 7 → if_named (listings.row (bytes "declarationDir")) (c.named config.declaration_dir) ≡ place_at commands text (bytes "declarationDir") dir command.declaration_dir x
+    pub declarations_part : (x : Option Record) → Supplied b row 7 x → if_named (listings.row (bytes "declarationDir")) ((config_in b row).named config.declaration_dir) ≡ place_at (bytes "declarationDir") dir command.declaration_dir x
     unfolding if_named place_at slot said
-    declarations_part Nothing e = ap (if_named (listings.row (bytes "declarationDir"))) (none_at config.declaration_dir e)
-    declarations_part (At rec) e = ap (if_named (listings.row (bytes "declarationDir"))) (some_at config.declaration_dir rec e ∙ built_declarations dir base (dir_of text (index.record_at commands rec)) (single text command.declaration_dir (index.record_at commands rec)))
+    declarations_part None s = ap (if_named (listings.row (bytes "declarationDir"))) (none_at b row w dir d base bs config.declaration_dir s)
+    declarations_part (Some r) s =
+        let l = read r.commands.now r.at in
+        ap (if_named (listings.row (bytes "declarationDir"))) (some_at b row w dir d base bs config.declaration_dir r s ∙ built_declarations dir base (dir_of r.text.now l) (single r.text.now command.declaration_dir l))
 
-    flag_part : (id : ℕ) (x : Found) → x ≡ begin_at begins row (slot (config.flag id)) → if_named (flag_row id) (c.named (config.flag id)) ≡ flag_at commands id x
-    unfolding if_named flag_at plain said
-    flag_part id Nothing e = ap (if_named (flag_row id)) (none_at (config.flag id) e)
-    flag_part id (At rec) e = ap (if_named (flag_row id)) (plain_at (config.flag id) refl rec e ∙ built_flag dir base id (flag_of id (index.record_at commands rec)))
+  -- How long it may be: there is always room to count it
 
-    text_part : (id : ℕ) (x : Found) → x ≡ begin_at begins row (slot (config.text id)) → if_named (text_row id) (c.named (config.text id)) ≡ text_at commands text id x
-    unfolding if_named text_at plain said
-    text_part id Nothing e = ap (if_named (text_row id)) (none_at (config.text id) e)
-    text_part id (At rec) e = ap (if_named (text_row id)) (plain_at (config.text id) refl rec e ∙ built_text dir base id (option_of text id (index.record_at commands rec)))
+  supplied_by : (k : ℕ) → k < 28 → (x : Option ℕ) → x ≡ begin_at b.begins.now row k → Option Record
+  supplied_by k l None e = None
+  supplied_by k l (Some rec) e =
+      Some (record {
+        commands = b.commands;
+        text = b.paths.text;
+        at = rec;
+        good = place_good b.commands.now b.paths.text.now b.begins.now b.records row k rec (place_there b.commands.now b.paths.text.now b.begins.now b.records row w k l) e;
+      })
 
-    flags_part : (k id : ℕ) → id + k ≤ 11 → flags c id k ≡ flags_from commands begins row id k
-    unfolding flags flags_from
-    flags_part zero id h = refl
-    flags_part (suc k) id h =
-        both (flag_part id (begin_at begins row (8 + id)) (ap (begin_at begins row) (sym (slot_of_flag id (omega (arith, h)))))) (flags_part k (suc id) (omega (arith, h)))
+  is_supplied : (k : ℕ) (l : k < 28) (x : Option ℕ) (e : x ≡ begin_at b.begins.now row k) → Supplied b row k (supplied_by k l x e)
+  unfolding supplied_by
+  is_supplied k l None e = record { at = e; commands = tt; text = tt }
+  is_supplied k l (Some rec) e = record { at = e; commands = refl; text = refl }
 
-    texts_part : (k id : ℕ) → id + k ≤ 7 → texts c id k ≡ texts_from commands begins row text id k
-    unfolding texts texts_from
-    texts_part zero id h = refl
-    texts_part (suc k) id h =
-        both (text_part id (begin_at begins row (19 + id)) (ap (begin_at begins row) (sym (slot_of_text id (omega (arith, h)))))) (texts_part k (suc id) (omega (arith, h)))
+  pub supplies : (k : ℕ) → k < 28 → Option Record
+  supplies k l = supplied_by k l (begin_at b.begins.now row k) refl
 
-    pub listing_is : listing (record_at (records_of commands text) (number_of row)).references c ≡ whole_part commands begins row text dir base (get_or begins (number_of row) 0)
-    unfolding listing whole_part base_part mapping_part places_part options_part
-    listing_is =
-        both (files_part (begin_at begins row 0) refl)
-        (both (include_part (begin_at begins row 1) refl)
-        (both (exclude_part (begin_at begins row 2) refl)
-        (both (url_part (begin_at begins row 3) refl)
-        (both (ap (listings.row (bytes "base")) (sym s))
-        (both (paths_part (begin_at begins row 4) refl)
-        (both (ap (rows (bytes "reference")) (record_references commands text begins b (number_of row) w.own))
-        (both (roots_part (begin_at begins row 5) refl)
-        (both (out_part (begin_at begins row 6) refl)
-        (both (declarations_part (begin_at begins row 7) refl)
-        (both (flags_part 11 0 (omega arith)) (texts_part 7 0 (omega arith))))))))))))
+  pub is_there : (k : ℕ) (l : k < 28) → Supplied b row k (supplies k l)
+  unfolding supplies
+  is_there k l = is_supplied k l (begin_at b.begins.now row k) refl
 
-  -- The function's own needs
+fits : (b : CheckedBook) (row : List ℕ) (k : ℕ) (x : Option Record) → Supplied b row k x → IfSome x Fits
+fits b row k None s = tt
+fits b row k (Some r) s = let ce : r.commands.now ≡ b.commands.now = s.commands in omega (arith, ap length ce, b.records.small)
 
-  own_is : get_or row 27 0 ≡ number_of row
-  own_is = get_d_any row 27 0 absent (omega (arith, w.long))
+module _ (b : CheckedBook) (row : List ℕ) (w : Row (records_in b) row) where
+  texts_size : (k id : ℕ) → id + k ≤ 7 → length (texts (config_in b row) id k) ≤ k * 132000000
+  unfolding texts
+  texts_size zero id h = omega arith
+  texts_size (suc k) id h =
+      let l : 19 + id < 28 = omega (arith, h) in
+      let x = supplies b row w (19 + id) l in
+      let s = is_there b row w (19 + id) l in
+      omega (
+        arith,
+        length-append (if_named (text_row id) ((config_in b row).named (config.text id))) (texts (config_in b row) (suc id) k),
+        ap length (text_named b row w id (omega (arith, h)) x s),
+        text_size id x (fits b row (19 + id) x s),
+        texts_size k (suc id) (omega (arith, h)),
+      )
 
-  pub own_few : get_or row 27 0 < 64
-  own_few = omega (arith, own_is, w.own, b.few)
+  flags_size : (k id : ℕ) → length (flags (config_in b row) id k) ≤ k * 100
+  unfolding flags
+  flags_size zero id = omega arith
+  flags_size (suc k) id =
+      let o = (config_in b row).named (config.flag id) in
+      omega (arith, length-append (if_named (flag_row id) o) (flags (config_in b row) (suc id) k), flag_line id o, flags_size k (suc id))
 
-  pub own_there : get_or row 27 0 < length begins
-  own_there = omega (arith, own_is, w.own, b.there)
+  options_size : length (options_part (config_in b row)) ≤ 1000000000
+  unfolding options_part
+  options_size = omega (arith, length-append (flags (config_in b row) 0 11) (texts (config_in b row) 0 7), flags_size 11 0, texts_size 7 0 (omega arith))
 
-  module _ (rec : ℕ) (at-rec : rec ≡ get_or begins (get_or row 27 0) 0) where
-    rec_is : rec ≡ get_or begins (number_of row) 0
-    rec_is = at-rec ∙ ap (λ (i : ℕ). get_or begins i 0) own_is
+  module _ (dir : Text) (d : dir ≡ parent_of (site_of (records_in b) row).path) (sd : length dir ≤ 512) (base : Text) (bs : base ≡ (config_in b row).base) (sb : length base ≤ 1600) where
+    -- a field's lines are short: what shows it is read at its supplier
+    part_size : (k : ℕ) → k < 28 → (F : Option Record → Text) (t : Text) (n : ℕ) → ((x : Option Record) → Supplied b row k x → t ≡ F x) → ((x : Option Record) → IfSome x Fits → length (F x) ≤ n) → length t ≤ n
+    part_size k l F t n is small =
+        let x = supplies b row w k l in
+        let s = is_there b row w k l in
+        omega (arith, ap length (is x s), small x (fits b row k x s))
 
-    module _ (dir : Text) (d : dir ≡ dir_of text (index.record_at commands rec)) where
-      dir_is : dir ≡ dir_of text (index.record_at commands (get_or begins (number_of row) 0))
-      dir_is = d ∙ ap (λ (i : ℕ). dir_of text (index.record_at commands i)) rec_is
+    lists_size : length (lists_part (config_in b row)) ≤ 600000000
+    unfolding lists_part
+    lists_size =
+        let a = if_named (items (bytes "files")) ((config_in b row).named config.files) in
+        let i = if_named (items (bytes "include")) ((config_in b row).named config.include) in
+        let e = if_named (items (bytes "exclude")) ((config_in b row).named config.exclude) in
+        let u = if_named (listings.row (bytes "baseUrl")) ((config_in b row).named config.base_url) in
+        omega (
+          arith,
+          length-append a (i ++ (e ++ u)),
+          length-append i (e ++ u),
+          length-append e u,
+          part_size 0 (omega arith) (list_at (bytes "files") dir command.file) a 132000000 (files_part b row w dir d base bs) (list_size dir sd (bytes "files") (omega arith) command.file),
+          part_size 1 (omega arith) (list_at (bytes "include") dir command.include_item) i 132000000 (include_part b row w dir d base bs) (list_size dir sd (bytes "include") (omega arith) command.include_item),
+          part_size 2 (omega arith) (list_at (bytes "exclude") dir command.exclude_item) e 132000000 (exclude_part b row w dir d base bs) (list_size dir sd (bytes "exclude") (omega arith) command.exclude_item),
+          part_size 3 (omega arith) (url_at dir) u 132000000 (url_part b row w dir d base bs) (url_size dir sd),
+        )
 
-      own_good : All (Good text) (index.record_at commands rec)
-      own_good = subst (λ i. All (Good text) (index.record_at commands i)) (sym rec_is) (own_sound commands text begins b row w).each
+    places_size : length (places_part (config_in b row)) ≤ 2000000000
+    unfolding places_part
+    places_size =
+        let a = if_named (items (bytes "rootDir")) ((config_in b row).named config.root_dirs) in
+        let o = if_named (listings.row (bytes "outDir")) ((config_in b row).named config.out_dir) in
+        let e = if_named (listings.row (bytes "declarationDir")) ((config_in b row).named config.declaration_dir) in
+        let u = options_part (config_in b row) in
+        omega (
+          arith,
+          length-append a (o ++ (e ++ u)),
+          length-append o (e ++ u),
+          length-append e u,
+          options_size,
+          part_size 5 (omega arith) (roots_at dir) a 132000000 (roots_part b row w dir d base bs) (roots_size dir sd),
+          part_size 6 (omega arith) (place_at (bytes "outDir") dir command.out_dir) o 132000000 (out_part b row w dir d base bs) (place_size dir sd (bytes "outDir") (omega arith) command.out_dir),
+          part_size 7 (omega arith) (place_at (bytes "declarationDir") dir command.declaration_dir) e 132000000 (declarations_part b row w dir d base bs) (place_size dir sd (bytes "declarationDir") (omega arith) command.declaration_dir),
+        )
 
-      pub own_dir_short : length dir ≤ 512
-      own_dir_short = omega (arith, ap length d, dir_short text (index.record_at commands rec) own_good)
+    module _ (r : Record) (s : Supplied b row own_place (Some r)) where
+      abbrev references : List Text
+      references = strings r.text.now command.reference (read r.commands.now r.at)
 
-      module _ (base : Text) (short : length base ≤ 1600) (at : ℕ) where
-        pub own_room : at ≤ 65536 → Room at (whole_part commands begins row text dir base rec)
-        own_room h = whole_room commands text begins row b.small lent dir base own_dir_short short rec own_good at h
+      base_size : length (base_part references (config_in b row)) ≤ 4600000000000
+      unfolding base_part
+      base_size =
+          let a = listings.row (bytes "base") (config_in b row).base in
+          let m = if_named listings.mapping ((config_in b row).named config.paths) in
+          let l = rows (bytes "reference") references in
+          let u = places_part (config_in b row) in
+          omega (
+            arith,
+            length-append a (m ++ (l ++ u)),
+            length-append m (l ++ u),
+            length-append l u,
+            row_length (bytes "base") (config_in b row).base,
+            ap length bs,
+            sb,
+            part_size 4 (omega arith) (mapping_at dir base) m 4400000000000 (paths_part b row w dir d base bs) (mapping_size dir sd base sb),
+            references_size r (fits b row own_place (Some r) s),
+            places_size,
+          )
 
-        module _ (s : base ≡ (site_of (records_of commands text) row).config.base) where
-          -- the listing is what the code writes
-          listing_here : listing (record_at (records_of commands text) (number_of row)).references (site_of (records_of commands text) row).config ≡ whole_part commands begins row text dir base rec
-          listing_here = listing_is dir dir_is base s ∙ ap (λ (i : ℕ). whole_part commands begins row text dir base i) (sym rec_is)
+      -- a listing is short
+      pub listing_room : (at : ℕ) → at ≤ 65536 → Room at (lists_part (config_in b row) ++ base_part references (config_in b row))
+      listing_room at h = record { room = omega (arith, h, length-append (lists_part (config_in b row)) (base_part references (config_in b row)), lists_size, base_size) }
 
-          pub own_emits : (o u : Text) (r : ℕ) → Emits (whole_part commands begins row text dir base rec) o at u r → Emits (listing (record_at (records_of commands text) (number_of row)).references (site_of (records_of commands text) row).config) o at u r
-          own_emits o u r p = rw listing_here p
+      pub listing_is : listing (record_at (records_in b) (number_of row)).references (config_in b row) ≡ lists_part (config_in b row) ++ base_part references (config_in b row)
+      listing_is =
+          by_parts (record_at (records_in b) (number_of row)).references (config_in b row)
+          ∙ ap (λ (l : List Text). lists_part (config_in b row) ++ base_part l (config_in b row)) (sym (own_references b row w r s))
 
-  -- a listing is short
-  pub listing_length : length (site_of (records_of commands text) row).config.base ≤ 1600 → length (listing (record_at (records_of commands text) (number_of row)).references (site_of (records_of commands text) row).config) < 2 ^ 62
-  listing_length h =
-      let rec = get_or begins (number_of row) 0 in
-      let dir = dir_of text (index.record_at commands rec) in
-      let base = (site_of (records_of commands text) row).config.base in
-      let good = (own_sound commands text begins b row w).each in
-      omega (arith, ap length (listing_is dir refl base refl), whole_size commands text begins row b.small lent dir base (dir_short text (index.record_at commands rec) good) h rec good)
+-- A field and what follows it
+
+module _ (b : CheckedBook) (row : List ℕ) where
+  abbrev pub after_files : Text
+  after_files =
+      if_named (items (bytes "include")) ((config_in b row).named config.include)
+      ++ (if_named (items (bytes "exclude")) ((config_in b row).named config.exclude) ++ if_named (listings.row (bytes "baseUrl")) ((config_in b row).named config.base_url))
+
+  abbrev pub after_include : Text
+  after_include = if_named (items (bytes "exclude")) ((config_in b row).named config.exclude) ++ if_named (listings.row (bytes "baseUrl")) ((config_in b row).named config.base_url)
+
+  abbrev pub after_roots : Text
+  after_roots =
+      if_named (listings.row (bytes "outDir")) ((config_in b row).named config.out_dir)
+      ++ (if_named (listings.row (bytes "declarationDir")) ((config_in b row).named config.declaration_dir) ++ options_part (config_in b row))
+
+  abbrev pub after_out : Text
+  after_out = if_named (listings.row (bytes "declarationDir")) ((config_in b row).named config.declaration_dir) ++ options_part (config_in b row)
+
+  abbrev pub after_base : List Text → Text
+  after_base references = if_named listings.mapping ((config_in b row).named config.paths) ++ (rows (bytes "reference") references ++ places_part (config_in b row))
+
+  pub base_first : (references : List Text) (base : Text) → base ≡ (config_in b row).base → base_part references (config_in b row) ≡ listings.row (bytes "base") base ++ after_base references
+  unfolding base_part
+  base_first references base bs = ap (λ (t : Text). listings.row (bytes "base") t ++ after_base references) (sym bs)
+
+  module _ (w : Row (records_in b) row) (dir : Text) (d : dir ≡ parent_of (site_of (records_in b) row).path) (x : Option Record) where
+    pub paths_first :
+        (references : List Text) (base : Text) → base ≡ (config_in b row).base → Supplied b row 4 x →
+        after_base references ≡ mapping_at dir base x ++ (rows (bytes "reference") references ++ places_part (config_in b row))
+    paths_first references base bs s = ap (λ (t : Text). t ++ (rows (bytes "reference") references ++ places_part (config_in b row))) (paths_part b row w dir d base bs x s)
+
+    pub files_first : Supplied b row 0 x → lists_part (config_in b row) ≡ list_at (bytes "files") dir command.file x ++ after_files
+    unfolding lists_part
+    files_first s = ap (λ (t : Text). t ++ after_files) (files_part b row w dir d (config_in b row).base refl x s)
+
+    pub include_first : Supplied b row 1 x → after_files ≡ list_at (bytes "include") dir command.include_item x ++ after_include
+    include_first s = ap (λ (t : Text). t ++ after_include) (include_part b row w dir d (config_in b row).base refl x s)
+
+    pub exclude_first : Supplied b row 2 x → after_include ≡ list_at (bytes "exclude") dir command.exclude_item x ++ if_named (listings.row (bytes "baseUrl")) ((config_in b row).named config.base_url)
+    exclude_first s = ap (λ (t : Text). t ++ if_named (listings.row (bytes "baseUrl")) ((config_in b row).named config.base_url)) (exclude_part b row w dir d (config_in b row).base refl x s)
+
+    pub url_first : Supplied b row 3 x → if_named (listings.row (bytes "baseUrl")) ((config_in b row).named config.base_url) ≡ url_at dir x ++ []
+    url_first s = url_part b row w dir d (config_in b row).base refl x s ∙ sym (append-nil (url_at dir x))
+
+    pub roots_first : Supplied b row 5 x → places_part (config_in b row) ≡ roots_at dir x ++ after_roots
+    unfolding places_part
+    roots_first s = ap (λ (t : Text). t ++ after_roots) (roots_part b row w dir d (config_in b row).base refl x s)
+
+    pub out_first : Supplied b row 6 x → after_roots ≡ place_at (bytes "outDir") dir command.out_dir x ++ after_out
+    out_first s = ap (λ (t : Text). t ++ after_out) (out_part b row w dir d (config_in b row).base refl x s)
+
+    pub declarations_first : Supplied b row 7 x → after_out ≡ place_at (bytes "declarationDir") dir command.declaration_dir x ++ options_part (config_in b row)
+    declarations_first s = ap (λ (t : Text). t ++ options_part (config_in b row)) (declarations_part b row w dir d (config_in b row).base refl x s)

@@ -1,192 +1,195 @@
 -- The aliases and the candidates of a row's config. Assumes nothing.
-use mathlib.Core.Path.{◌≡◌, refl, sym, ap, subst, ◌∙◌}
-use mathlib.Core.List.{List, [], ◌∷◌, map}
-use mathlib.Core.Bool.{Bool, true, false, true≢false}
-use mathlib.Core.Option
-use mathlib.Core.Option.{Option, some, none}
-use Prim.Native.Nat.{ℕ, ◌^◌, ◌≤◌, ◌<◌}
-use native.Mathlib.Omega.{arith}
-use lib.ListN.{length, get_or}
+use Rattle.std.proofs.Common.{◌≡◌, ℕ, ◌≤◌, ◌<◌, Bool, true, false, List, [], ◌∷◌, map, length, get_or, Option, Some, None, IfSome, option_map, refl, sym, ap, ◌∙◌, true≢false, arith}
+use Rattle.std.specs.Prelude.{unwrap_or}
 use Rattle.text.specs.Bytes.{Text, dot}
-use Rattle.text.specs.Text.{some_of}
-use Rattle.emit.specs.Emit.{written, Emits}
-use Rattle.text.specs.declared.Found.{Found}
-use Rattle.text.specs.declared.Found.TheVariants.{At, Nothing}
+use Rattle.text.specs.Text.{some_of, each_of}
+use Rattle.text.proofs.Picks.{by_test, both_left, both_right}
+use Rattle.emit.specs.Output.{Puts}
+use Rattle.emit.specs.declared.Output.{Output}
+use Rattle.emit.proofs.Outputs.{puts_both}
 use Rattle.components.specs.Components.{starts}
 use Rattle.path.specs.Path.{is_some}
 use Rattle.ends.specs.Ends.{parent_of}
 use Rattle.join.specs.Join.{normalize_with}
-use Rattle.text.proofs.Picks.{by_test}
 use Rattle.book.specs.declared.Cmd.{Cmd}
 use Rattle.book.specs.Command as command
-use Rattle.book.specs.Record.{is, keys_of, mapping}
-use Rattle.book.specs.Index.{record_at}
-use Rattle.book.specs.Sound.{All, Good}
-use Rattle.items.proofs.Items.{mapping_is, mapping_not}
+use Rattle.book.specs.Record.{is, only, first_of, single, keys_of, mapping, record_path_of}
+use Rattle.items.proofs.Reading.{mapping_is, mapping_not}
+use Rattle.record.specs.Good.{read, good_command}
+use Rattle.record.proofs.Good.{good_each, good_short, dir_short}
 use Rattle.tsconfig.specs.Config.{Field, base_url, paths}
 use Rattle.tsconfig.specs.Parsed.{placed_value, said}
 use Rattle.tsconfig.specs.Build.{Settings, built_value}
-use Rattle.tsconfig.specs.Mapping.{from_paths, aliases, from_base_url, or_if_none, candidates}
-use Rattle.rows.specs.Rows.{slot, begin_at, supplier, site_of, Row}
-use Rattle.rows.specs.Records.{Records, records_of, dir_of}
-use Rattle.rows.proofs.Fields.{found_place, found_rec, record_says, supplier_there, row_begin, place_sound, own_sound, site_path, site_none, site_plain, plain}
-use Rattle.values.proofs.Lengths.{record_length}
-use Rattle.values.proofs.Reading.{dir_short}
-use Rattle.targets.specs.declared.Listed.{Listed}
 use Rattle.tsconfig.specs.Laid.{laid}
+use Rattle.tsconfig.specs.Mapping.{from_paths, aliases, from_base_url, or_if_none, candidates}
+use Rattle.values.proofs.Lengths.{record_length}
+use Rattle.rows.specs.Rows.{slot, begin_at, supplier, number_of, Row}
+use Rattle.rows.specs.Records.{dir_of}
+use Rattle.rows.specs.Checked.{records_in}
+use Rattle.rows.specs.declared.CheckedBook.{CheckedBook}
+use Rattle.rows.proofs.Fields.{found_place, found_rec, record_says, supplier_there, place_there, place_good, own_sound, site_path, site_none, site_plain, plain}
 use Rattle.choice.specs.Keyed.{built_key}
-use Rattle.targets.specs.Targets.{Short, Fits, Lists}
-use Rattle.mapping.specs.Asks.{config_at, dir_at, Asks}
+use Rattle.targets.specs.Targets.{Lists}
 use Rattle.targets.proofs.Aims.{lists_none}
+use Rattle.mapping.specs.Asks.{config_at, dir_at, Asks}
 use Rattle.mapping.proofs.Mapped.{Few, few_none, paths_few}
+
+-- The path of a good record is short
+
+first_short : (text : Text) (op : ℕ) (r : List Cmd) → each_of (good_command text) r ≡ true → IfSome (single text op r) (λ t. length t ≤ 512)
+unfolding single first_of only each_of
+first_short text op [] h = tt
+first_short text op (c ∷ r) h =
+    by_test (is op c) (λ t. rw t (good_short text c (both_left (good_command text c) (each_of (good_command text) r) h)))
+    (λ f. rw f (first_short text op r (both_right (good_command text c) (each_of (good_command text) r) h)))
+
+or_short : (o : Option Text) → IfSome o (λ t. length t ≤ 512) → length (unwrap_or o []) ≤ 512
+or_short None h = omega arith
+or_short (Some t) h = h
+
+path_short : (text : Text) (r : List Cmd) → each_of (good_command text) r ≡ true → length (record_path_of text r) ≤ 512
+unfolding record_path_of
+path_short text r h = or_short (single text command.begin r) (first_short text command.begin r h)
 
 -- What a row says
 
-is_some_map : {A B : Type 0} (g : A → B) (o : Option A) → is_some (Option.map g o) ≡ is_some o
+is_some_map : {A B : Type 0} (g : A → B) (o : Option A) → is_some (option_map g o) ≡ is_some o
 unfolding is_some
-is_some_map g none = refl
-is_some_map g (some a) = refl
+is_some_map g None = refl
+is_some_map g (Some a) = refl
 
-module _ (commands text : Text) (begins row : List ℕ) (b : Records commands text begins) (w : Row (records_of commands text) row) where
-  pub as_dir : (dir : Text) → dir ≡ parent_of (site_of (records_of commands text) row).path → dir ≡ dir_at commands text begins row
-  as_dir dir e = e ∙ ap parent_of (site_path commands text begins b row w)
-
-  -- the record that a place has names the field
-  pub said_some : (f : Field) (rec : ℕ) → At rec ≡ begin_at begins row (slot f) → is_some (said text (record_at commands rec) f) ≡ true
-  said_some f rec e =
-      let n = found_place begins row (slot f) rec e in
-      let z : rec ≡ get_or begins (supplier row f) 0 = found_rec begins row (slot f) rec e in
-      let h = record_says commands text begins b (supplier row f) (supplier_there commands text begins b row w f n) f in
-      ap (λ (j : ℕ). is_some (said text (record_at commands j) f)) z
-      ∙ sym (is_some_map (placed_value (dir_of text (record_at commands (get_or begins (supplier row f) 0))) f) (said text (record_at commands (get_or begins (supplier row f) 0)) f))
-      ∙ sym (ap is_some h) ∙ w.named f n
-
-mapping_some : (text : Text) (r : List Cmd) → is_some (mapping text r) ≡ true → mapping text r ≡ some (keys_of text r)
+mapping_some : (text : Text) (r : List Cmd) → is_some (mapping text r) ≡ true → mapping text r ≡ Some (keys_of text r)
 unfolding is_some
 mapping_some text r e = by_test (some_of (is command.paths) r) (λ t. mapping_is text r t) (λ f. absurd (true≢false (sym e ∙ ap is_some (mapping_not text r f))))
 
+module _ (b : CheckedBook) (row : List ℕ) (w : Row (records_in b) row) where
+  abbrev s : Text
+  s = b.commands.now
+
+  abbrev text : Text
+  text = b.paths.text.now
+
+  -- what `supplier` asks for, at each place
+  pub place_asks : (k : ℕ) → k < 28 → (get_or row k 255 ≡ 255 → ⊥) → get_or row k 255 < length (records_in b)
+  place_asks k h = place_there s text b.begins.now b.records row w k h
+
+  pub dir_is : dir_at b row ≡ dir_of text (read s (get_or b.begins.now (number_of row) 0))
+  dir_is = ap parent_of (site_path s text b.begins.now b.records row w)
+
+  pub dir_at_short : length (dir_at b row) ≤ 512
+  dir_at_short = rw dir_is (dir_short (record_path_of text (read s (get_or b.begins.now (number_of row) 0))) (path_short text (read s (get_or b.begins.now (number_of row) 0)) (good_each text _ (own_sound s text b.begins.now b.records row w).each)))
+
+  -- the record that a place has names the field
+  pub said_some : (f : Field) (rec : ℕ) → Some rec ≡ begin_at b.begins.now row (slot f) → is_some (said text (read s rec) f) ≡ true
+  said_some f rec e =
+      let n = found_place b.begins.now row (slot f) rec e in
+      let z : rec ≡ get_or b.begins.now (supplier row f) 0 = found_rec b.begins.now row (slot f) rec e in
+      let h = record_says s text b.begins.now b.records (supplier row f) (supplier_there s text b.begins.now b.records row w f n) f in
+      ap (λ (j : ℕ). is_some (said text (read s j) f)) z
+      ∙ sym (is_some_map (placed_value (dir_of text (read s (get_or b.begins.now (supplier row f) 0))) f) (said text (read s (get_or b.begins.now (supplier row f) 0)) f))
+      ∙ sym (ap is_some h) ∙ w.named f n
+
 -- The aliases
 
-module _ (commands text : Text) (begins row : List ℕ) (base spec : Text) (at : ℕ) (a : Asks commands text begins row base spec at) where
+module _ (b : CheckedBook) (row : List ℕ) (base spec : Text) (at : ℕ) (a : Asks b row base spec at) where
   abbrev config : Settings
-  config = config_at commands text row
+  config = config_at b row
 
-  pub dotted : (k : Bool) → k ≡ starts dot spec → k ≡ true → (o : Text) → Lists (aliases config spec) o at o (record { count = 0; at = at })
+  pub dotted : (k : Bool) → k ≡ starts dot spec → k ≡ true → aliases config spec ≡ []
   unfolding aliases
-  dotted k e t o = rw (← e, t) (lists_none o at)
+  dotted k e t = rw (← e, t)
 
-  pub place_asks : (k : ℕ) → k < 28 → (k < length row) × ((get_or row k 255 ≡ 255 → ⊥) → get_or row k 255 < length begins)
-  place_asks k h = row_begin commands text begins a.0.0 row a.0.1.0 k h
+  module _ (k : Bool) (e : k ≡ starts dot spec) (n : k ≡ false) where
+    pub unmapped : None ≡ begin_at b.begins.now row 4 → aliases config spec ≡ []
+    unfolding aliases from_paths slot
+    unmapped q =
+        let y : config.named paths ≡ None = site_none (s b row a.sound) (text b row a.sound) b.begins.now b.records row a.sound (dir_at b row) (dir_is b row a.sound) base a.base_is paths q in
+        rw (← e, n, y)
 
-  module _ (dir : Text) (d : dir ≡ dir_at commands text begins row) where
-    module _ (k : Bool) (e : k ≡ starts dot spec) (n : k ≡ false) (f : Found) (q : f ≡ begin_at begins row 4) where
-      unmapped_is : f ≡ Nothing → aliases config spec ≡ []
-      unfolding aliases from_paths slot
-      unmapped_is z =
-          let y : config.named paths ≡ none = site_none commands text begins a.0.0 row a.0.1.0 dir d base a.0.1.1 paths (sym z ∙ q) in
-          rw (← e, n, y) refl
+    module _ (rec : ℕ) (q : Some rec ≡ begin_at b.begins.now row 4) where
+      named_is : config.named paths ≡ Some (map (built_key (dir_at b row) base) (keys_of b.paths.text.now (read b.commands.now rec)))
+      unfolding slot built_value said plain
+      named_is =
+          site_plain b.commands.now b.paths.text.now b.begins.now b.records row a.sound (dir_at b row) (dir_is b row a.sound) base a.base_is paths refl rec q
+          ∙ ap (option_map (map (built_key (dir_at b row) base))) (mapping_some b.paths.text.now (read b.commands.now rec) (said_some b row a.sound paths rec q))
 
-      pub unmapped : f ≡ Nothing → (o : Text) → Lists (aliases config spec) o at o (record { count = 0; at = at })
-      unmapped z o = rw (unmapped_is z) (lists_none o at)
+      pub mapped : from_paths spec (Some (map (built_key (dir_at b row) base) (keys_of b.paths.text.now (read b.commands.now rec)))) ≡ aliases config spec
+      unfolding aliases
+      mapped = sym (rw (← e, n, named_is))
 
-      module _ (rec : ℕ) (z : f ≡ At rec) where
-        pub mapped_asks : All (Good text) (record_at commands rec) × (Short dir base spec × Fits commands at)
-        mapped_asks = (
-          (place_sound commands text begins a.0.0 row a.0.1.0 4 rec (omega arith) (sym z ∙ q)).each,
-          (
-            record { dir_short = rw d (dir_short text _ (own_sound commands text begins a.0.0 row a.0.1.0).each); base_short = a.1.0; part_short = a.1.1.0 },
-            record { small = a.0.0.small; near = a.1.1.1 },
-          ),
-        )
+      mapped_few : Few 32768 (aliases config spec)
+      mapped_few =
+          let good = place_good b.commands.now b.paths.text.now b.begins.now b.records row 4 rec (place_asks b row a.sound 4 (omega arith)) q in
+          rw (← mapped)
+          (paths_few b.paths.text.now (dir_at b row) base spec 32768 (dir_at_short b row a.sound) a.base_short a.spec_short (read b.commands.now rec) good (omega (arith, record_length b.commands.now rec, b.records.small)))
 
-        mapped_is : config.named paths ≡ some (map (built_key dir base) (keys_of text (record_at commands rec)))
-        unfolding slot built_value said plain
-        mapped_is =
-            site_plain commands text begins a.0.0 row a.0.1.0 dir d base a.0.1.1 paths refl rec (sym z ∙ q)
-            ∙ ap (Option.map (map (built_key dir base))) (mapping_some text (record_at commands rec) (said_some commands text begins row a.0.0 a.0.1.0 paths rec (sym z ∙ q)))
-
-        pub mapped_gives : (o u : Text) (l : Listed) → Lists (from_paths spec (some (map (built_key dir base) (keys_of text (record_at commands rec))))) o at u l → Lists (aliases config spec) o at u l
-        unfolding aliases
-        mapped_gives o u l y = rw (← e, n, mapped_is) y
-
-        mapped_few : Few 32768 (aliases config spec)
-        unfolding aliases
-        mapped_few =
-            let g = mapped_asks in
-            rw (← e, n, mapped_is) (paths_few text dir base spec (record_at commands rec) g.0 g.1.0 32768 (omega (arith, record_length commands rec, g.1.1.small)))
-
-      -- they are not many, nor long
-      pub aliases_few : Few 32768 (aliases config spec)
-      unfolding aliases from_paths slot laid
-      aliases_few = by_found f refl
-        where
-          by_found : (x : Found) → f ≡ x → Few 32768 (aliases config spec)
-          by_found Nothing z = few_none (unmapped_is z)
-          by_found (At rec) z = mapped_few rec z
+    -- they are not many, nor long
+    pub aliases_few : Few 32768 (aliases config spec)
+    aliases_few = by_found (begin_at b.begins.now row 4) refl
+      where
+        by_found : (x : Option ℕ) → x ≡ begin_at b.begins.now row 4 → Few 32768 (aliases config spec)
+        by_found None z = few_none (unmapped z)
+        by_found (Some rec) z = mapped_few rec z
 
   -- What baseUrl gives
 
-  module _ (f : Found) (q : f ≡ begin_at begins row 3) where
-    pub base_unnamed : f ≡ Nothing → from_base_url config spec (config.named base_url) ≡ []
-    unfolding from_base_url slot
-    base_unnamed n =
-        let x : config.named base_url ≡ none = site_none commands text begins a.0.0 row a.0.1.0 (dir_at commands text begins row) refl base a.0.1.1 base_url (sym n ∙ q) in
-        rw x refl
+  pub base_unnamed : None ≡ begin_at b.begins.now row 3 → from_base_url config spec (config.named base_url) ≡ []
+  unfolding from_base_url slot
+  base_unnamed q =
+      let x : config.named base_url ≡ None = site_none b.commands.now b.paths.text.now b.begins.now b.records row a.sound (dir_at b row) (dir_is b row a.sound) base a.base_is base_url q in
+      rw x
 
-    from_base : (c : Settings) (v : Option Text) → is_some v ≡ true → from_base_url c spec v ≡ normalize_with c.base spec ∷ []
-    unfolding from_base_url is_some
-    from_base c none e = absurd (true≢false (sym e))
-    from_base c (some v) e = refl
+  from_base : (c : Settings) (v : Option Text) → is_some v ≡ true → from_base_url c spec v ≡ normalize_with c.base spec ∷ []
+  unfolding from_base_url is_some
+  from_base c None e = absurd (true≢false (sym e))
+  from_base c (Some v) e = refl
 
-    pub base_named : {rec : ℕ} → f ≡ At rec → from_base_url config spec (config.named base_url) ≡ normalize_with base spec ∷ []
-    unfolding slot built_value said plain
-    base_named {rec} n =
-        let x = site_plain commands text begins a.0.0 row a.0.1.0 (dir_at commands text begins row) refl base a.0.1.1 base_url refl rec (sym n ∙ q) in
-        let s : is_some (config.named base_url) ≡ true = ap is_some x ∙ is_some_map (built_value (dir_at commands text begins row) base base_url) (said text (record_at commands rec) base_url) ∙ said_some commands text begins row a.0.0 a.0.1.0 base_url rec (sym n ∙ q) in
-        from_base config (config.named base_url) s ∙ ap (λ (t : Text). normalize_with t spec ∷ []) (sym a.0.1.1)
+  pub base_named : (rec : ℕ) → Some rec ≡ begin_at b.begins.now row 3 → from_base_url config spec (config.named base_url) ≡ normalize_with base spec ∷ []
+  unfolding slot built_value said plain
+  base_named rec q =
+      let x = site_plain b.commands.now b.paths.text.now b.begins.now b.records row a.sound (dir_at b row) (dir_is b row a.sound) base a.base_is base_url refl rec q in
+      let n : is_some (config.named base_url) ≡ true = ap is_some x ∙ is_some_map (built_value (dir_at b row) base base_url) (said b.paths.text.now (read b.commands.now rec) base_url) ∙ said_some b row a.sound base_url rec q in
+      from_base config (config.named base_url) n ∙ ap (λ (t : Text). normalize_with t spec ∷ []) (sym a.base_is)
 
-  -- The candidates
+-- Lists where there is none
 
-  module _ (o u : Text) (l : Listed) (y : Lists (aliases config spec) o at u l) where
-    some_stay : (ts us : List Text) → 0 < length ts → or_if_none ts us ≡ ts
-    unfolding or_if_none
-    some_stay [] us h = absurd (omega (arith, h))
-    some_stay (t ∷ ts) us h = refl
+pub lists_empty : (ts : List Text) (o : Output) → ts ≡ [] → Lists ts o o 0
+lists_empty ts o e = rw e (lists_none o)
 
-    pub some_mapped : 0 < l.count → Lists (candidates config spec) o at u l
-    unfolding candidates
-    some_mapped h = rw (some_stay (aliases config spec) (from_base_url config spec (config.named base_url)) (omega (arith, y.counts, h))) y
+-- The candidates, where the mapping gave n
 
-    none_of_lem : (ts : List Text) → length ts ≡ 0 → ts ≡ []
-    none_of_lem [] h = refl
-    none_of_lem (t ∷ ts) h = absurd (omega (arith, h))
+module _ (c : Settings) (spec : Text) (o u : Output) (n : ℕ) (y : Lists (aliases c spec) o u n) where
+  some_stay : (ts us : List Text) → 0 < length ts → or_if_none ts us ≡ ts
+  unfolding or_if_none
+  some_stay [] us h = absurd (omega (arith, h))
+  some_stay (t ∷ ts) us h = refl
 
-    module _ (z : l.count ≤ 0) where
-      no_alias : aliases config spec ≡ []
-      no_alias = none_of_lem (aliases config spec) (omega (arith, y.counts, z))
+  pub some_mapped : 0 < n → Lists (candidates c spec) o u n
+  unfolding candidates
+  some_mapped h = rw (some_stay (aliases c spec) (from_base_url c spec (c.named base_url)) (omega (arith, y.counts, h))) y
 
-      by_base : candidates config spec ≡ from_base_url config spec (config.named base_url)
-      unfolding candidates or_if_none
-      by_base = rw no_alias refl
+  none_of : (ts : List Text) → length ts ≡ 0 → ts ≡ []
+  none_of [] h = refl
+  none_of (t ∷ ts) h = absurd (omega (arith, h))
 
-      pub at_stays : l.at ≡ at
-      unfolding laid
-      at_stays = omega (arith, y.emits.next, ap (λ (ts : List Text). length (laid ts)) no_alias)
+  module _ (z : n ≤ 0) where
+    no_alias : aliases c spec ≡ []
+    no_alias = none_of (aliases c spec) (omega (arith, y.counts, z))
 
-      pub out_stays : u ≡ o
-      unfolding laid written
-      out_stays = y.emits.text ∙ ap (λ (ts : List Text). written o at (laid ts)) no_alias
+    none_puts : Puts [] o u
+    unfolding laid
+    none_puts = let p = y.puts in rw no_alias at p
 
-      module _ (f : Found) (q : f ≡ begin_at begins row 3) where
-        pub no_base : f ≡ Nothing → Lists (candidates config spec) o at u l
-        no_base n = rw (by_base, base_unnamed f q n) (subst (λ (ts : List Text). Lists ts o at u l) no_alias y)
+    pub none_near : u.at ≡ o.at
+    none_near = omega (arith, none_puts.wrote.next)
 
-        module _ {rec : ℕ} (n : f ≡ At rec) where
-          base_is : candidates config spec ≡ normalize_with base spec ∷ []
-          base_is = by_base ∙ base_named f q n
+    by_base : candidates c spec ≡ from_base_url c spec (c.named base_url)
+    unfolding candidates or_if_none
+    by_base = rw no_alias
 
-          pub base_gives : (v : Text) (k : ℕ) → Emits (laid (normalize_with base spec ∷ [])) u l.at v k → Lists (candidates config spec) o at v (record { count = 1; at = k })
-          base_gives v k e = rw base_is (record { counts = refl; emits = rw (← out_stays, ← at_stays) e })
+    pub none_given : from_base_url c spec (c.named base_url) ≡ [] → Lists (candidates c spec) o u 0
+    unfolding laid
+    none_given e = rw (by_base, e) (record { counts = refl; puts = none_puts })
 
-      pub base_asks : (length base ≤ 1600) × ((length spec ≤ 1100) × (l.at < 2 ^ 62))
-      base_asks = (a.1.0, (omega (arith, a.1.1.0), omega (arith, at_stays, a.1.1.1)))
+    pub base_given : (t : Text) → from_base_url c spec (c.named base_url) ≡ t ∷ [] → (v : Output) → Puts (laid (t ∷ [])) u v → Lists (candidates c spec) o v 1
+    base_given t e v p = rw (by_base, e) (record { counts = refl; puts = puts_both [] _ o u v none_puts p })

@@ -1,129 +1,100 @@
 // What a specifier maps to: the key of `paths` that is chosen, its targets, and the candidates.
 #![tactic(auto)]
 
-ghost use Rattle.std.specs.Prelude.{◌≡◌, map};
-ghost use Rattle.std.proofs.Math.Option.{some};
+ghost use Rattle.std.specs.Prelude.{◌≡◌, ◌≤◌, map, length, Some, None};
 ghost use Rattle.text.specs.Bytes.{dot};
 ghost use Rattle.components.specs.Components.{starts};
 ghost use Rattle.book.specs.Record.{keys_of};
-ghost use Rattle.book.specs.Index.{record_at};
-ghost use Rattle.book.specs.Sound.{All, Good};
+ghost use Rattle.record.specs.Good.{read};
 ghost use Rattle.tsconfig.specs.Mapping.{from_paths, aliases, candidates};
 ghost use Rattle.mapping.specs.Asks.{config_at, dir_at, Asks};
 ghost use Rattle.choice.specs.Keyed.{built_key};
-ghost use Rattle.targets.specs.Targets.{Short, Fits, Lists};
+ghost use Rattle.targets.specs.Targets.{Lists};
 
-use book::string_of;
 use choice::{best_key, equal_key};
-use items::Item;
+use emit::Output;
 use keys::key_match;
-use rows::begin_at;
+use record::Record;
+use rows::CheckedBook;
 use sites::site_dir;
-use targets::{Listed, put_read, put_targets};
-use text::{DOT, Found};
+use targets::{put_read, put_targets};
+use text::DOT;
 
-// Where a row has the record that names baseUrl, the one that names paths, and its own.
-const BASE_URL_PLACE: usize = 3;
+// Where a row has the record that names baseUrl, and the one that names paths.
+pub const BASE_URL_PLACE: usize = 3;
 
 const PATHS_PLACE: usize = 4;
 
-// Writes what the `paths` of the record at rec give for the specifier: the targets of an equal key as they are built, else those of the best
-// wildcard, filled.
-fn put_mapped(
-    commands: &[u8],
-    text: &[u8],
-    rec: usize,
-    dir: &[u8],
-    base: &[u8],
-    spec: &[u8],
-    out: &mut [u8],
-    at: usize,
-) -> Listed
-    requires { All (Good text.now) (record_at commands.now rec) × (Short dir.now base.now spec.now × Fits commands.now at) }
-    ensures { Lists (from_paths spec.now (some (map (built_key dir.now base.now) (keys_of text.now (record_at commands.now rec))))) out.old at out.new result }
+// Writes what the `paths` of the record give for the specifier, and gives how many they are: the targets of an equal key as they are built, else
+// those of the best wildcard, filled.
+fn put_mapped(out: &mut Output, record: &Record, dir: &[u8], base: &[u8], spec: &[u8]) -> usize
+    requires dir { length dir.now ≤ 512 }
+    requires base { length base.now ≤ 1600 }
+    requires spec { length spec.now ≤ 512 }
+    requires book { length record.now.commands.now ≤ 32768 }
+    requires near { out.old.at ≤ 65536 }
+    ensures { Lists (from_paths spec.now (Some (map (built_key dir.now base.now) (keys_of record.now.text.now (read record.now.commands.now record.now.at))))) out.old out.new result }
 {
-    match equal_key(commands, text, rec, spec) {
-        Item::At(_, next) => {
-            return put_targets(out, at, commands, text, next, dir, base, false, spec);
-        }
-        Item::Missing => {}
+    if let Some(key) = equal_key(record, spec) {
+        return put_targets(out, key.targets, dir, base, None);
     }
-    match best_key(commands, text, rec, spec) {
-        Item::Missing => return Listed { count: 0, at: at },
-        Item::At(c, next) => {
-            let key = string_of(text, c);
-            let mut matched = false;
-            let part = key_match(key, spec, &mut matched);
-            return put_targets(out, at, commands, text, next, dir, base, true, part);
-        }
-    }
+    let Some(key) = best_key(record, spec) else {
+        return 0;
+    };
+    put_targets(out, key.targets, dir, base, key_match(key.name, spec))
 }
 
 // Whether s starts with a dot.
+#[tactic(auto, unfolding(components::specs::Components::starts))]
 pub fn starts_dot(s: &[u8]) -> bool
     ensures { result ≡ starts dot s.now }
 {
-    if s.len() == 0 {
-        return false;
-    }
-    s[0] == DOT
+    matches!(s, [DOT, ..])
 }
 
-// Writes the aliases of the row's config for the specifier: none where it starts with a dot.
+// Writes the aliases of the row's config for the specifier, and gives how many they are: none where it starts with a dot.
 pub fn put_aliases(
-    commands: &[u8],
-    text: &[u8],
-    begins: &[usize],
+    out: &mut Output,
+    book: &CheckedBook,
     row: &[u8],
     dir: &[u8],
     base: &[u8],
     spec: &[u8],
-    out: &mut [u8],
-    at: usize,
-) -> Listed
-    requires { Asks commands.now text.now begins.now row.now base.now spec.now at × (dir.now ≡ dir_at commands.now text.now begins.now row.now) }
-    ensures { Lists (aliases (config_at commands.now text.now row.now) spec.now) out.old at out.new result }
+) -> usize
+    requires asks { Asks book.now row.now base.now spec.now out.old.at }
+    requires dir { dir.now ≡ dir_at book.now row.now }
+    ensures { Lists (aliases (config_at book.now row.now) spec.now) out.old out.new result }
 {
     if starts_dot(spec) {
-        return Listed { count: 0, at: at };
+        return 0;
     }
-    let Found::At(rec) = begin_at(begins, row, PATHS_PLACE) else {
-        return Listed { count: 0, at: at };
-    };
-    put_mapped(commands, text, rec, dir, base, spec, out, at)
+    match book.supplier(row, PATHS_PLACE) {
+        Some(record) => put_mapped(out, &record, dir, base, spec),
+        None => 0,
+    }
 }
 
-// Writes the candidates of the row's config for the specifier: what the mapping gives, and where it gives none and baseUrl is named, the specifier
-// read from the base.
+// Writes the candidates of the row's config for the specifier, and gives how many they are: what the mapping gives, and where it gives none and
+// baseUrl is named, the specifier read from the base.
 pub fn put_candidates(
-    commands: &[u8],
-    text: &[u8],
-    begins: &[usize],
+    out: &mut Output,
+    book: &CheckedBook,
     row: &[u8],
     base: &[u8],
     spec: &[u8],
-    out: &mut [u8],
-    at: usize,
-) -> Listed
-    requires { Asks commands.now text.now begins.now row.now base.now spec.now at }
-    ensures { Lists (candidates (config_at commands.now text.now row.now) spec.now) out.old at out.new result }
+) -> usize
+    requires { Asks book.now row.now base.now spec.now out.old.at }
+    ensures { Lists (candidates (config_at book.now row.now) spec.now) out.old out.new result }
 {
-    let dir = site_dir(commands, text, begins, row);
-    let mapped = put_aliases(commands, text, begins, row, dir, base, spec, out, at);
-    let count = mapped.count;
-    let to = mapped.at;
+    let count = put_aliases(out, book, row, site_dir(book, row), base, spec);
     if 0 < count {
-        return Listed {
-            count: count,
-            at: to,
-        };
+        return count;
     }
-    let Found::At(_) = begin_at(begins, row, BASE_URL_PLACE) else {
-        return Listed {
-            count: count,
-            at: to,
-        };
-    };
-    let end = put_read(base, spec, out, to);
-    Listed { count: 1, at: end }
+    match book.supplier(row, BASE_URL_PLACE) {
+        Some(_) => {
+            put_read(out, base, spec);
+            1
+        }
+        None => 0,
+    }
 }

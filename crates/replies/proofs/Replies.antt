@@ -1,13 +1,14 @@
 -- The ways out of the functions. Assumes nothing.
 use mathlib.Core.Path.{◌≡◌, refl, sym, ap, subst, ◌∙◌}
 use mathlib.Core.List.{List, [], ◌∷◌}
-use Prim.Native.Nat.{ℕ, ◌^◌, ◌≤◌, ◌<◌}
+use Prim.Native.Nat.{ℕ, ◌≤◌, ◌<◌}
 use native.Mathlib.Omega.{arith}
 use lib.ListN.{length, take}
-use lib.Seq.{length-take-le}
 use borrow.Author.Tests.{lt-ltb, le-ltb}
 use Rattle.text.specs.Bytes.{Text}
-use Rattle.emit.specs.Emit.{Room, Emits}
+use Rattle.emit.specs.Emit.{Emits}
+use Rattle.emit.specs.Output.{Puts}
+use Rattle.emit.specs.declared.Output.{Output}
 use Rattle.emit.proofs.Emits.{written_whole, emits_length, emits_holds}
 use Rattle.book.specs.Answer.{refused, given}
 use Rattle.replies.specs.Replies.{Outcome, Reply, fit, listed, returned, output, numbers_of, Told}
@@ -16,26 +17,24 @@ use Rattle.replies.specs.declared.Numbers.{Numbers}
 
 -- A refusal
 
-pub refused_numbers : (r : Numbers) (k p : ℕ) → r.number ≡ k → r.place ≡ p → r.first ≡ 0 → r.second ≡ 0 → r.bytes ≡ 0 → numbers_of r ≡ returned (refused k p)
-unfolding returned
-refused_numbers r k p a b c d e = rw (a, b, c, d, e) refl
-
 -- output kept, and the numbers of a refusal
 pub told_refused : (o : Outcome) (r : Numbers) (old new : Text) (k p : ℕ) → o ≡ refused k p → numbers_of r ≡ returned (refused k p) → new ≡ old → Told o r old new
 unfolding output
 told_refused o r old new k p e n u = record { numbers = n ∙ sym (ap returned e); bytes = u ∙ sym (ap (λ (x : Outcome). output x old) e) }
 
+-- What is written to output of which nothing was written
+
+pub written_first : (x old : Text) (o u : Output) → o.bytes.now ≡ old → o.at ≡ 0 → Puts x o u → Emits x old 0 u.bytes.now u.at
+written_first x old o u e z p = rw (← e, ← z) p.wrote
+
 -- What the scratch holds of a text, where it is long enough, is the text
 
-pub part_room : (k : ℕ) (scratch : Text) → k ≤ length scratch → k < 2 ^ 63 → Room 0 (take k scratch)
-part_room k scratch h s = record { room = omega (arith, s, length-take-le k scratch h) }
-
 module _ (x in-scratch scratch : Text) (k : ℕ) (made : Emits x in-scratch 0 scratch k) (h : k ≤ length scratch) where
-  pub scratch_holds : take k scratch ≡ x
+  scratch_holds : take k scratch ≡ x
   scratch_holds = (emits_holds x in-scratch scratch 0 k (omega (arith, h, made.next, emits_length x in-scratch 0 scratch k made)) made).bytes
 
-  pub scratch_copied : (old new : Text) (n : ℕ) → Emits (take k scratch) old 0 new n → Emits x old 0 new n
-  scratch_copied old new n p = subst (λ (t : Text). Emits t old 0 new n) scratch_holds p
+  pub scratch_copied : (t old new : Text) (n : ℕ) → t ≡ take k scratch → Emits t old 0 new n → Emits x old 0 new n
+  scratch_copied t old new n e p = subst (λ (t : Text). Emits t old 0 new n) (e ∙ scratch_holds) p
 
 -- A reply that fits, or not: counted first, then written
 

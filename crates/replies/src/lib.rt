@@ -1,12 +1,13 @@
 // What is answered: the numbers returned, and bytes copied to the output.
 #![tactic(auto)]
 
-ghost use Rattle.std.specs.Prelude.{◌≡◌, [], ◌∷◌, ◌<◌, ◌≤◌, ◌^◌, length, take};
+ghost use Rattle.std.specs.Prelude.{◌≡◌, [], ◌∷◌};
 ghost use Rattle.emit.specs.Emit.{Emits};
-ghost use Rattle.book.specs.Answer.{refused};
+ghost use Rattle.book.specs.Refusals.{refusal};
 ghost use Rattle.replies.specs.Replies.{returned, numbers_of};
 
-use emit::put_text;
+use book::Refusal;
+use emit::Output;
 
 // The refusal's number and place, or 0 and 0 with the answer's two numbers and the bytes written.
 #[repr(C)]
@@ -19,12 +20,13 @@ pub struct Numbers {
     pub bytes: u64,
 }
 
-pub fn refuse(number: u32, place: usize) -> Numbers
-    ensures { numbers_of result ≡ returned (refused number place) }
+#[tactic(auto, unfolding(crate::specs::Replies::returned))]
+pub fn refuse(reason: Refusal) -> Numbers
+    ensures { numbers_of result ≡ returned (refusal reason) }
 {
     Numbers {
-        number: number as u64,
-        place: place as u64,
+        number: u64::from(reason.fault.number()),
+        place: reason.place as u64,
         first: 0,
         second: 0,
         bytes: 0,
@@ -35,13 +37,7 @@ pub fn refuse(number: u32, place: usize) -> Numbers
 pub fn give(first: usize, second: usize) -> Numbers
     ensures { numbers_of result ≡ 0 ∷ 0 ∷ first ∷ second ∷ 0 ∷ [] }
 {
-    Numbers {
-        number: 0,
-        place: 0,
-        first: first as u64,
-        second: second as u64,
-        bytes: 0,
-    }
+    reply(first, second, 0)
 }
 
 // An answer with its output.
@@ -57,10 +53,11 @@ pub fn reply(first: usize, second: usize, bytes: usize) -> Numbers
     }
 }
 
-// The first n bytes of the scratch, copied to the start of the output.
-pub fn copy_out(scratch: &[u8], n: usize, out: &mut [u8]) -> usize
-    requires { (n ≤ length scratch.now) × (n < 2 ^ 63) }
-    ensures { Emits (take n scratch.now) out.old 0 out.new result }
+// Copies the text to the start of the output, as far as that reaches; how many bytes it has.
+pub fn copy_out(text: &[u8], out: &mut [u8]) -> usize
+    ensures { Emits text.now out.old 0 out.new result }
 {
-    put_text(out, 0, &scratch[..n])
+    let mut answer = Output::new(out);
+    answer.put_text(text);
+    answer.at
 }

@@ -1,3 +1,4 @@
--- Laws of the definitions of what is tried.
+-- Laws of the definitions of specs/.
+pub mod Prefixes
 pub mod Others
 pub mod Rests

@@ -1,41 +1,32 @@
 // The root dirs of a record, and the one that a path lies in.
 #![tactic(auto)]
 
-ghost use Rattle.roots.specs.Roots.{Rooted, BestRoot};
+ghost use Rattle.std.specs.Prelude.{◌≡◌, ◌≤◌, None, length, option_copied, option_map, IfSome};
+ghost use Rattle.tsconfig.specs.Mapping.{root_above};
+ghost use Rattle.roots.specs.Roots.{built_place, roots_of};
 
-use book::{ROOT_DIR, string_of};
-use items::{Item, next_item};
+use book::ROOT_DIR;
 use path::lies_under;
-use text::upto;
+use record::Record;
 use values::build_place;
 
-// The root dir of the record at rec that p lies under and whose text is the longest, of equal ones the earliest. dir is the built config's
+// The root dir of the record that p lies under and whose text is the longest when it is built, of equal ones the earliest. dir is the built config's
 // directory, own the record's.
-pub fn best_root(commands: &[u8], text: &[u8], rec: usize, dir: &[u8], own: &[u8], p: &[u8]) -> Item
-    requires { Rooted commands.now text.now rec dir.now own.now }
-    ensures { BestRoot commands.now text.now rec dir.now own.now p.now result }
+pub fn best_root<'a>(record: &Record<'a>, dir: &[u8], own: &[u8], p: &[u8]) -> Option<&'a [u8]>
+    requires dir { length dir.now ≤ 512 }
+    requires own { length own.now ≤ 512 }
+    ensures value { option_map (built_place dir.now own.now) (option_copied result) ≡ root_above p.now None (roots_of record.now.commands.now record.now.text.now dir.now own.now record.now.at) }
+    ensures short { IfSome result (λ s. length s.now ≤ 512) }
 {
-    let mut at = rec;
-    let mut best = Item::Missing;
+    let mut best = None;
     let mut least = 0;
-    loop {
-        match next_item(commands, at, ROOT_DIR) {
-            Item::Missing => return best,
-            Item::At(c, next) => {
-                at = next;
-                let s = string_of(text, c);
-                let mut buf = [0u8; 1600];
-                let n = build_place(dir, own, s, &mut buf);
-                if n < least {
-                    continue;
-                }
-                let root = upto(&buf, n);
-                if !lies_under(p, root) {
-                    continue;
-                }
-                best = Item::At(c, next);
-                least = n + 1;
-            }
+    for s in record.strings(ROOT_DIR) {
+        let mut buffer = [0u8; 1600];
+        let root = build_place(dir, own, s, &mut buffer);
+        if least <= root.len() && lies_under(p, root) {
+            best = Some(s);
+            least = root.len() + 1;
         }
     }
+    best
 }

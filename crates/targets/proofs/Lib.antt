@@ -1,4 +1,3 @@
 -- Laws of the definitions of specs/.
 pub mod Lays
 pub mod Aims
-pub mod Based

@@ -1,164 +1,142 @@
 // The targets of a key as they are built and written, and a specifier read from a base, in the layout of an answer.
 #![tactic(auto)]
 
-ghost use Rattle.std.specs.Prelude.{[], ◌∷◌, ◌+◌, ◌^◌, ◌≤◌, ◌<◌, length};
-ghost use Rattle.emit.specs.Emit.{Room, Emits};
+ghost use Rattle.std.specs.Prelude.{[], ◌∷◌, ◌+◌, ◌^◌, ◌≤◌, ◌<◌, map, length, option_copied};
+ghost use Rattle.emit.specs.Emit.{Room};
+ghost use Rattle.emit.specs.Output.{Puts};
 ghost use Rattle.join.specs.Join.{normalize_with};
-ghost use Rattle.book.specs.Record.{targets_of};
-ghost use Rattle.book.specs.Index.{record_at};
+ghost use Rattle.record.specs.Lists.{targets_left};
 ghost use Rattle.tsconfig.specs.Mapping.{filled};
 ghost use Rattle.tsconfig.specs.Laid.{size_of, laid};
-ghost use Rattle.targets.specs.Targets.{target_as, targets_as, EachShort, Short, Fits, Lists};
+ghost use Rattle.targets.specs.Targets.{target_as, Short, Fits, Lists};
 
-use book::string_of;
-use emit::{put, put_text};
-use items::{Item, next_target};
+use emit::Output;
 use join::normalize_with;
-use text::{Found, find_star, from, upto};
+use record::Targets;
+use text::{find_star, from, upto};
 use values::adjust;
 
 // The length of a buffer that is long enough for most paths.
 const SHORT: usize = 256;
 
-// How many paths were written, and the place after them.
-#[derive(Clone, Copy)]
-pub struct Listed {
-    pub count: usize,
-    pub at: usize,
-}
-
 // Writes a length as two bytes, low byte first.
-fn put_size(out: &mut [u8], at: usize, n: usize) -> usize
-    requires { Room at (size_of n) × (n < 65536) }
-    ensures { Emits (size_of n) out.old at out.new result }
+fn put_size(out: &mut Output, n: usize)
+    requires room { Room out.old.at (size_of n) }
+    requires short { n < 65536 }
+    ensures { Puts (size_of n) out.old out.new }
 {
-    let low = (n % 256) as u8;
-    let high = (n / 256) as u8;
-    let k = put(out, at, low);
-    put(out, k, high)
+    out.put_text(&(n as u16).to_le_bytes());
 }
 
 // Writes a path with its length before it.
-pub fn put_path(out: &mut [u8], at: usize, v: &[u8]) -> usize
-    requires { Room at (laid (v.now ∷ [])) × (length v.now < 65536) }
-    ensures { Emits (laid (v.now ∷ [])) out.old at out.new result }
+pub fn put_path(out: &mut Output, v: &[u8])
+    requires room { Room out.old.at (laid (v.now ∷ [])) }
+    requires short { length v.now < 65536 }
+    ensures { Puts (laid (v.now ∷ [])) out.old out.new }
 {
-    let k = put_size(out, at, v.len());
-    put_text(out, k, v)
+    put_size(out, v.len());
+    out.put_text(v);
 }
 
 // Writes a target with its first star filled, its length before it.
-fn put_filled(out: &mut [u8], at: usize, t: &[u8], part: &[u8]) -> usize
-    requires { Room at (laid (filled part.now t.now ∷ [])) × (length (filled part.now t.now) < 65536) }
-    ensures { Emits (laid (filled part.now t.now ∷ [])) out.old at out.new result }
+fn put_filled(out: &mut Output, t: &[u8], part: &[u8])
+    requires room { Room out.old.at (laid (filled part.now t.now ∷ [])) }
+    requires short { length (filled part.now t.now) < 65536 }
+    ensures { Puts (laid (filled part.now t.now ∷ [])) out.old out.new }
 {
-    let Found::At(star) = find_star(t) else {
-        return put_path(out, at, t);
+    let Some(star) = find_star(t) else {
+        put_path(out, t);
+        return;
     };
     let head = upto(t, star);
     let tail = from(t, star + 1);
-    let n = head.len() + part.len() + tail.len();
-    let a = put_size(out, at, n);
-    let b = put_text(out, a, head);
-    let e = put_text(out, b, part);
-    put_text(out, e, tail)
+    put_size(out, head.len() + part.len() + tail.len());
+    out.put_text(head);
+    out.put_text(part);
+    out.put_text(tail);
 }
 
-// Writes a target as it is built in the buffer, its star filled where it is asked.
-fn put_target_in(
-    out: &mut [u8],
-    at: usize,
+// Writes a target as it is built in a buffer of N bytes, its star filled where there is a part for it.
+fn put_target_within<const N: usize>(
+    out: &mut Output,
     dir: &[u8],
     base: &[u8],
     t: &[u8],
-    fill: bool,
-    part: &[u8],
-    buf: &mut [u8],
-) -> usize
-    requires { (Room at (laid (target_as dir.now base.now fill part.now t.now ∷ [])) × (Short dir.now base.now part.now × (length t.now ≤ 512))) × ((length dir.now + 1 + length t.now ≤ length buf.old) × (length base.now + 1 + length t.now ≤ length buf.old)) }
-    ensures { Emits (laid (target_as dir.now base.now fill part.now t.now ∷ [])) out.old at out.new result }
+    part: Option<&[u8]>,
+)
+    requires room { Room out.old.at (laid (target_as dir.now base.now (option_copied part) t.now ∷ [])) }
+    requires short { Short dir.now base.now (option_copied part) }
+    requires t { length t.now ≤ 512 }
+    requires dir { length dir.now + 1 + length t.now ≤ N }
+    requires base { length base.now + 1 + length t.now ≤ N }
+    requires buffer { N < 2 ^ 63 }
+    ensures { Puts (laid (target_as dir.now base.now (option_copied part.entry) t.now ∷ [])) out.old out.new }
 {
-    let n = adjust(dir, base, t, buf);
-    let path = upto(buf, n);
-    if fill {
-        return put_filled(out, at, path, part);
+    let mut buffer = [0u8; N];
+    let path = adjust(dir, base, t, &mut buffer);
+    match part {
+        Some(part) => put_filled(out, path, part),
+        None => put_path(out, path),
     }
-    put_path(out, at, path)
 }
 
-// Writes a target as it is built, its star filled where it is asked. Most need a short buffer only.
-fn put_target(
-    out: &mut [u8],
-    at: usize,
-    dir: &[u8],
-    base: &[u8],
-    t: &[u8],
-    fill: bool,
-    part: &[u8],
-) -> usize
-    requires { Room at (laid (target_as dir.now base.now fill part.now t.now ∷ [])) × (Short dir.now base.now part.now × (length t.now ≤ 512)) }
-    ensures { Emits (laid (target_as dir.now base.now fill part.now t.now ∷ [])) out.old at out.new result }
+// Writes a target as it is built, its star filled where there is a part for it. Most need a short buffer only.
+fn put_target(out: &mut Output, dir: &[u8], base: &[u8], t: &[u8], part: Option<&[u8]>)
+    requires room { Room out.old.at (laid (target_as dir.now base.now (option_copied part) t.now ∷ [])) }
+    requires short { Short dir.now base.now (option_copied part) }
+    requires t { length t.now ≤ 512 }
+    ensures { Puts (laid (target_as dir.now base.now (option_copied part.entry) t.now ∷ [])) out.old out.new }
 {
     if dir.len() + base.len() + t.len() < SHORT {
-        let mut short = [0u8; SHORT];
-        return put_target_in(out, at, dir, base, t, fill, part, &mut short);
+        put_target_within::<SHORT>(out, dir, base, t, part);
+    } else {
+        put_target_within::<2200>(out, dir, base, t, part);
     }
-    let mut buf = [0u8; 2200];
-    put_target_in(out, at, dir, base, t, fill, part, &mut buf)
 }
 
-// Writes the targets that stand at the offset, each as it is built.
+// Writes the targets, each as it is built, and gives how many they are.
 pub fn put_targets(
-    out: &mut [u8],
-    at: usize,
-    commands: &[u8],
-    text: &[u8],
-    next: usize,
+    out: &mut Output,
+    targets: Targets,
     dir: &[u8],
     base: &[u8],
-    fill: bool,
-    part: &[u8],
-) -> Listed
-    requires { EachShort (targets_of text.now (record_at commands.now next)) × (Short dir.now base.now part.now × Fits commands.now at) }
-    ensures { Lists (targets_as commands.now text.now dir.now base.now fill part.now next) out.old at out.new result }
+    part: Option<&[u8]>,
+) -> usize
+    requires short { Short dir.now base.now (option_copied part) }
+    requires room { Fits (targets_left targets) out.old.at }
+    ensures { Lists (map (target_as dir.now base.now (option_copied part.entry)) (targets_left targets.entry)) out.old out.new result }
 {
-    let mut k = at;
-    let mut to = next;
     let mut count = 0;
-    loop {
-        match next_target(commands, to) {
-            Item::Missing => return Listed {
-                count: count,
-                at: k,
-            },
-            Item::At(c, after) => {
-                let t = string_of(text, c);
-                k = put_target(out, k, dir, base, t, fill, part);
-                count += 1;
-                to = after;
-            }
-        }
+    for t in targets {
+        put_target(out, dir, base, t, part);
+        count += 1;
     }
+    count
 }
 
-// Writes the specifier as it is read from the base into the buffer.
-fn put_read_in(base: &[u8], spec: &[u8], buf: &mut [u8], out: &mut [u8], at: usize) -> usize
-    requires { ((length base.now ≤ 1600) × ((length spec.now ≤ 1100) × (at < 2 ^ 62))) × (length base.now + 1 + length spec.now ≤ length buf.old) }
-    ensures { Emits (laid (normalize_with base.now spec.now ∷ [])) out.old at out.new result }
+// Writes the specifier as it is read from the base in a buffer of N bytes.
+fn put_read_within<const N: usize>(out: &mut Output, base: &[u8], spec: &[u8])
+    requires base { length base.now ≤ 1600 }
+    requires spec { length spec.now ≤ 1100 }
+    requires near { out.old.at < 2 ^ 62 }
+    requires room { length base.now + 1 + length spec.now ≤ N }
+    requires buffer { N < 2 ^ 63 }
+    ensures { Puts (laid (normalize_with base.now spec.now ∷ [])) out.old out.new }
 {
-    let n = normalize_with(base, spec, buf);
-    put_path(out, at, upto(buf, n))
+    let mut buffer = [0u8; N];
+    put_path(out, normalize_with(base, spec, &mut buffer));
 }
 
 // Writes the specifier as it is read from the base. Most need a short buffer only.
-pub fn put_read(base: &[u8], spec: &[u8], out: &mut [u8], at: usize) -> usize
-    requires { (length base.now ≤ 1600) × ((length spec.now ≤ 1100) × (at < 2 ^ 62)) }
-    ensures { Emits (laid (normalize_with base.now spec.now ∷ [])) out.old at out.new result }
+pub fn put_read(out: &mut Output, base: &[u8], spec: &[u8])
+    requires base { length base.now ≤ 1600 }
+    requires spec { length spec.now ≤ 1100 }
+    requires near { out.old.at < 2 ^ 62 }
+    ensures { Puts (laid (normalize_with base.now spec.now ∷ [])) out.old out.new }
 {
     if base.len() + spec.len() < SHORT {
-        let mut short = [0u8; SHORT];
-        return put_read_in(base, spec, &mut short, out, at);
+        put_read_within::<SHORT>(out, base, spec);
+    } else {
+        put_read_within::<2800>(out, base, spec);
     }
-    let mut buf = [0u8; 2800];
-    put_read_in(base, spec, &mut buf, out, at)
 }

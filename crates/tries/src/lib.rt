@@ -6,84 +6,73 @@ ghost use Rattle.std.specs.Prelude.{◌≡◌, ◌≤◌, length};
 ghost use Rattle.join.specs.Join.{normalize_with};
 ghost use Rattle.tsconfig.specs.Config.{root_dirs};
 ghost use Rattle.tsconfig.specs.Mapping.{root_tries, tries};
-ghost use Rattle.rows.specs.Records.{Records, records_of};
+ghost use Rattle.rows.specs.Checked.{records_in};
 ghost use Rattle.rows.specs.Rows.{Row};
 ghost use Rattle.mapping.specs.Asks.{config_at, dir_at, Asks};
 ghost use Rattle.targets.specs.Targets.{Lists};
 
 use component_walk::inside_node_modules;
+use emit::Output;
 use join::normalize_with;
-use mapping::{put_aliases, starts_dot};
+use mapping::{BASE_URL_PLACE, put_aliases, starts_dot};
 use root_tries::put_root_tries;
-use rows::begin_at;
+use rows::CheckedBook;
 use sites::site_dir;
-use targets::{Listed, put_read};
-use text::{Found, upto};
+use targets::put_read;
 
-// Where a row has the record that names baseUrl, and the one that names rootDirs.
-const BASE_URL_PLACE: usize = 3;
-
+// Where a row has the record that names rootDirs.
 const ROOT_DIRS_PLACE: usize = 5;
 
-// Writes the tries of a specifier that starts with a dot: read from the directory, in the root dirs of the row's config.
+// Writes the tries of a specifier that starts with a dot, and gives how many they are: read from the directory, in the root dirs of the row's config.
 fn put_from_roots(
-    commands: &[u8],
-    text: &[u8],
-    begins: &[usize],
+    out: &mut Output,
+    book: &CheckedBook,
     row: &[u8],
     dir: &[u8],
     directory: &[u8],
     spec: &[u8],
-    out: &mut [u8],
-    at: usize,
-) -> Listed
-    requires { (Records commands.now text.now begins.now × (Row (records_of commands.now text.now) row.now × (dir.now ≡ dir_at commands.now text.now begins.now row.now))) × ((length directory.now ≤ 512) × ((length spec.now ≤ 512) × (at ≤ 65536))) }
-    ensures { Lists (root_tries (normalize_with directory.now spec.now) ((config_at commands.now text.now row.now).named root_dirs)) out.old at out.new result }
+) -> usize
+    requires row { Row (records_in book.now) row.now }
+    requires dir { dir.now ≡ dir_at book.now row.now }
+    requires directory { length directory.now ≤ 512 }
+    requires spec { length spec.now ≤ 512 }
+    requires near { out.old.at ≤ 65536 }
+    ensures { Lists (root_tries (normalize_with directory.now spec.now) ((config_at book.now row.now).named root_dirs)) out.old out.new result }
 {
-    let Found::At(rec) = begin_at(begins, row, ROOT_DIRS_PLACE) else {
-        return Listed { count: 0, at: at };
+    let Some(record) = book.supplier(row, ROOT_DIRS_PLACE) else {
+        return 0;
     };
-    let mut buf = [0u8; 1100];
-    let n = normalize_with(directory, spec, &mut buf);
-    let p = upto(&buf, n);
-    put_root_tries(commands, text, rec, dir, p, out, at)
+    let mut buffer = [0u8; 1100];
+    let p = normalize_with(directory, spec, &mut buffer);
+    put_root_tries(out, &record, dir, p)
 }
 
-// Writes the tries of the row's config for the specifier, from the directory: none inside `node_modules`.
+// Writes the tries of the row's config for the specifier, from the directory, and gives how many they are: none inside `node_modules`.
 pub fn put_tries(
-    commands: &[u8],
-    text: &[u8],
-    begins: &[usize],
+    out: &mut Output,
+    book: &CheckedBook,
     row: &[u8],
     base: &[u8],
     directory: &[u8],
     spec: &[u8],
-    out: &mut [u8],
-    at: usize,
-) -> Listed
-    requires { Asks commands.now text.now begins.now row.now base.now spec.now at × (length directory.now ≤ 512) }
-    ensures { Lists (tries (config_at commands.now text.now row.now) directory.now spec.now) out.old at out.new result }
+) -> usize
+    requires asks { Asks book.now row.now base.now spec.now out.old.at }
+    requires directory { length directory.now ≤ 512 }
+    ensures { Lists (tries (config_at book.now row.now) directory.now spec.now) out.old out.new result }
 {
     if inside_node_modules(directory) {
-        return Listed { count: 0, at: at };
+        return 0;
     }
-    let dir = site_dir(commands, text, begins, row);
+    let dir = site_dir(book, row);
     if starts_dot(spec) {
-        return put_from_roots(commands, text, begins, row, dir, directory, spec, out, at);
+        return put_from_roots(out, book, row, dir, directory, spec);
     }
-    let mapped = put_aliases(commands, text, begins, row, dir, base, spec, out, at);
-    let count = mapped.count;
-    let to = mapped.at;
-    let Found::At(_) = begin_at(begins, row, BASE_URL_PLACE) else {
-        return Listed {
-            count: count,
-            at: to,
-        };
-    };
-    let end = put_read(base, spec, out, to);
-    let all = count + 1;
-    Listed {
-        count: all,
-        at: end,
+    let mapped = put_aliases(out, book, row, dir, base, spec);
+    match book.supplier(row, BASE_URL_PLACE) {
+        Some(_) => {
+            put_read(out, base, spec);
+            mapped + 1
+        }
+        None => mapped,
     }
 }

@@ -1,14 +1,14 @@
-use Prim.Native.Nat.{◌-◌}
-use mathlib.Core.Path.{◌≡◌}
-use mathlib.Core.Option.{none}
-use lib.ListN.{length}
+use Rattle.std.proofs.Common.{◌≡◌, ◌≤◌, None, length, option_map, IfSome}
+use Rattle.record.specs.Lists.{key_of, keys_left}
+use Rattle.record.specs.Good.{read}
+use Rattle.book.specs.Record.{keys_of}
 use Rattle.tsconfig.specs.Mapping.{best_key}
-use Rattle.choice.specs.Keyed.{key_at, least_of}
-use Rattle.choice.proofs.Chosen.{keys_from}
+use Rattle.choice.specs.Keyed.{least_of}
 use Rattle.choice.proofs.best_key.Given as goal
 
-abbrev pub invariant-loop-best : goal.invariant-loop-best
-invariant-loop-best l = (best_key l.spec (key_at l.commands l.text l.best) (keys_from l.commands l.text l.at) ≡ best_key l.spec none (keys_from l.commands l.text l.rec)) × (l.least ≡ least_of (key_at l.commands l.text l.best))
-
-abbrev pub decreases-loop-best : goal.decreases-loop-best
-decreases-loop-best l = length l.commands - l.at
+abbrev pub invariant-loop-key : goal.invariant-loop-key
+invariant-loop-key l = record {
+  left : best_key l.spec (option_map key_of l.best) (keys_left l.key-iterator) ≡ best_key l.spec None (keys_of l.record.text.now (read l.record.commands.now l.record.at));
+  least_is : l.least ≡ least_of (option_map key_of l.best);
+  short : IfSome l.best (λ k. length k.name.now ≤ 512);
+}

@@ -1,19 +1,18 @@
-use mathlib.Core.Path.{refl, ◌∙◌}
-use Rattle.choice.proofs.Chosen.{item_less, equal_end, equal_found, equal_passed}
-use borrow.Author.Rules.{rules}
+use Rattle.std.proofs.Common.{eqb, length, ap, ◌∙◌, rules, tests}
+use Rattle.std.proofs.lemmas.Iterator.Search.{find_from_yields_List}
+use Rattle.std.proofs.lemmas.Iterator.Consumers.{YieldsList-from_shown}
+use Rattle.std.specs.Cmp.Lexicographic.{pointwise}
+use Rattle.book.specs.Record.{keys_of}
+use Rattle.record.specs.declared.place.Record.{Record}
+use Rattle.record.specs.Good.{read}
+use Rattle.tsconfig.specs.Mapping.{equal_key}
+use Rattle.record.specs.Lists.{key_of, keys_left, NextKey}
+use Rattle.choice.proofs.Chosen.{equal_found}
 use Rattle.choice.proofs.equal_key.Goals as goal
 
-pub loop-c-init : goal.loop-c-init
-loop-c-init c = refl
-
-pub returns-in-Missing : goal.returns-in-Missing
-returns-in-Missing c = equal_end _ _ _ _ _ c.next_item.ensures c.in-Missing.is ∙ c.loop-c.invariant
-
-pub returns-then-same_text : goal.returns-then-same_text
-returns-then-same_text c = search (rules, equal_found)
-
-pub loop-c-smaller : goal.loop-c-smaller
-loop-c-smaller c = search (rules, item_less)
-
-pub loop-c-preserved : goal.loop-c-preserved
-loop-c-preserved c = search (rules, equal_passed)
+pub returns-clause-value : goal.returns-clause-value
+returns-clause-value c =
+    let s = c.args.spec.now in
+    let road = YieldsList-from_shown NextKey key_of keys_left (λ t u h. ap length h.first.0) (λ t x u h. h.first) c.keys.result in
+    find_from_yields_List (λ k. pointwise eqb k.key s) _ _ c.find.result c.find.ensures.ran road (λ x b q k. search (rules, tests)) ∙ equal_found s _
+    ∙ ap (λ (r : Record). equal_key s (keys_of r.text.now (read r.commands.now r.at))) c.keys.ensures

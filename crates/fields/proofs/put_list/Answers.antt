@@ -1,12 +1,20 @@
-use Rattle.lines.proofs.Rows.{room_as, emits_as, emits_nothing}
-use Rattle.fields.proofs.Ways.{list_none, good_at, list_at_lem}
+use Rattle.std.proofs.Common.{sym}
+use Rattle.emit.proofs.Outputs.{puts_by}
+use Rattle.lines.proofs.Rows.{puts_nothing, room_as}
+use Rattle.fields.proofs.Ways.{list_none, list_empty, list_full}
 use Rattle.fields.proofs.put_list.Goals as goal
 
-pub returns-in-Nothing : goal.returns-in-Nothing
-returns-in-Nothing c = emits_nothing _ _ _ (list_none _ _ _ c.in-Nothing.is _ _ _)
+pub returns-in_default : goal.returns-in_default
+returns-in_default c = puts_nothing _ _ (list_none _ c.in_default.is _ _ _)
 
-pub put_items-requires : goal.put_items-requires
-put_items-requires c = (room_as _ (list_at_lem _ _ _ _ c.in-At.is _ _ _) c.requires.0, (good_at _ _ _ _ c.in-At.is c.requires.1.0, c.requires.1.1))
+pub put_strings-requires-clause-room : goal.put_strings-requires-clause-room
+put_strings-requires-clause-room c = room_as (sym (list_full _ c.in-Some.is _ c.string.ensures.value c.args.name.now c.args.dir.now c.in-Some-string.is)) c.requires.room
 
-pub returns-in-At : goal.returns-in-At
-returns-in-At c = emits_as _ (list_at_lem _ _ _ _ c.in-At.is _ _ _) _ _ _ c.put_items.ensures
+pub put_line-requires : goal.put_line-requires
+put_line-requires c = room_as (sym (list_empty _ c.in-Some.is _ c.string.ensures.value c.args.name.now c.args.dir.now c.in-None.is)) c.requires.room
+
+pub returns-in-Some-string : goal.returns-in-Some-string
+returns-in-Some-string c = puts_by _ _ _ _ (list_full _ c.in-Some.is _ c.string.ensures.value c.args.name.now c.args.dir.now c.in-Some-string.is) c.put_strings.ensures
+
+pub returns-in-None : goal.returns-in-None
+returns-in-None c = puts_by _ _ _ _ (list_empty _ c.in-Some.is _ c.string.ensures.value c.args.name.now c.args.dir.now c.in-None.is) c.put_line.ensures

@@ -1,12 +1,20 @@
-use Rattle.lines.proofs.Rows.{room_as, emits_as, emits_nothing}
-use Rattle.fields.proofs.Ways.{paths_none, good_at, paths_at}
+use Rattle.std.proofs.Common.{sym}
+use Rattle.emit.proofs.Outputs.{puts_by}
+use Rattle.lines.proofs.Rows.{puts_nothing, room_as}
+use Rattle.fields.proofs.Ways.{paths_none, paths_empty, paths_full}
 use Rattle.fields.proofs.put_mapping.Goals as goal
 
-pub returns-in-Nothing : goal.returns-in-Nothing
-returns-in-Nothing c = emits_nothing _ _ _ (paths_none _ _ _ c.in-Nothing.is _ _)
+pub returns-in_default : goal.returns-in_default
+returns-in_default c = puts_nothing _ _ (paths_none _ c.in_default.is _ _)
 
-pub put_key_items-requires : goal.put_key_items-requires
-put_key_items-requires c = (room_as _ (paths_at _ _ _ _ c.in-At.is _ _) c.requires.0, (good_at _ _ _ _ c.in-At.is c.requires.1.0, c.requires.1.1))
+pub put_keys-requires-clause-room : goal.put_keys-requires-clause-room
+put_keys-requires-clause-room c = room_as (sym (paths_full _ c.in-Some.is c.args.dir.now c.args.base.now c.string.ensures.value c.in-Some-string.is)) c.requires.room
 
-pub returns-in-At : goal.returns-in-At
-returns-in-At c = emits_as _ (paths_at _ _ _ _ c.in-At.is _ _) _ _ _ c.put_key_items.ensures
+pub put_line-requires : goal.put_line-requires
+put_line-requires c = room_as (sym (paths_empty _ c.in-Some.is c.args.dir.now c.args.base.now c.string.ensures.value c.in-None.is)) c.requires.room
+
+pub returns-in-Some-string : goal.returns-in-Some-string
+returns-in-Some-string c = puts_by _ _ _ _ (paths_full _ c.in-Some.is c.args.dir.now c.args.base.now c.string.ensures.value c.in-Some-string.is) c.put_keys.ensures
+
+pub returns-in-None : goal.returns-in-None
+returns-in-None c = puts_by _ _ _ _ (paths_empty _ c.in-Some.is c.args.dir.now c.args.base.now c.string.ensures.value c.in-None.is) c.put_line.ensures

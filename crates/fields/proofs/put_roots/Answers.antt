@@ -1,12 +1,20 @@
-use Rattle.lines.proofs.Rows.{room_as, emits_as, emits_nothing}
-use Rattle.fields.proofs.Ways.{roots_none, good_at, roots_at_lem}
+use Rattle.std.proofs.Common.{sym}
+use Rattle.emit.proofs.Outputs.{puts_by}
+use Rattle.lines.proofs.Rows.{puts_nothing, room_as}
+use Rattle.fields.proofs.Ways.{roots_none, roots_empty, roots_full}
 use Rattle.fields.proofs.put_roots.Goals as goal
 
-pub returns-in-Nothing : goal.returns-in-Nothing
-returns-in-Nothing c = emits_nothing _ _ _ (roots_none _ _ _ c.in-Nothing.is _)
+pub returns-in_default : goal.returns-in_default
+returns-in_default c = puts_nothing _ _ (roots_none _ c.in_default.is _)
 
-pub put_root_items-requires : goal.put_root_items-requires
-put_root_items-requires c = (room_as _ (roots_at_lem _ _ _ _ c.in-At.is _) c.requires.0, (good_at _ _ _ _ c.in-At.is c.requires.1.0, c.requires.1.1))
+pub put_root_rows-requires-clause-room : goal.put_root_rows-requires-clause-room
+put_root_rows-requires-clause-room c = room_as (sym (roots_full _ c.in-Some.is c.args.dir.now c.string.ensures.value c.in-Some-string.is)) c.requires.room
 
-pub returns-in-At : goal.returns-in-At
-returns-in-At c = emits_as _ (roots_at_lem _ _ _ _ c.in-At.is _) _ _ _ c.put_root_items.ensures
+pub put_line-requires : goal.put_line-requires
+put_line-requires c = room_as (sym (roots_empty _ c.in-Some.is c.args.dir.now c.string.ensures.value c.in-None.is)) c.requires.room
+
+pub returns-in-Some-string : goal.returns-in-Some-string
+returns-in-Some-string c = puts_by _ _ _ _ (roots_full _ c.in-Some.is c.args.dir.now c.string.ensures.value c.in-Some-string.is) c.put_root_rows.ensures
+
+pub returns-in-None : goal.returns-in-None
+returns-in-None c = puts_by _ _ _ _ (roots_empty _ c.in-Some.is c.args.dir.now c.string.ensures.value c.in-None.is) c.put_line.ensures

@@ -1,20 +1,18 @@
-use mathlib.Core.Path.{refl}
-use Rattle.emit.proofs.Emits.{owes_all, owes_step, owes_room, owes_end}
-use Rattle.lines.proofs.Turns.{item_less, item_on, keys_end, keys_turn}
-use borrow.Author.Rules.{rules}
+use Rattle.emit.proofs.Outputs.{left_room, left_step, left_end}
+use Rattle.std.proofs.Common.{map, ap}
+use Rattle.lines.specs.Lines.{built_key}
+use Rattle.lines.proofs.Rows.{keys_turn, keys_end, first_key, last_key}
 use Rattle.lines.proofs.put_keys.Goals as goal
 
-pub loop-c-init : goal.loop-c-init
-loop-c-init c = (refl, (c.requires.1.0, owes_all _ _ _))
+pub put_key-requires-clause-room : goal.put_key-requires-clause-room
+put_key-requires-clause-room c =
+    let turn = keys_turn c.args.dir.now c.args.base.now (first_key c.next.ensures.steps c.in-Some.is) in
+    left_room _ _ _ _ c.loop-key.invariant _ _ turn c.requires.room
 
-pub returns-in-Missing : goal.returns-in-Missing
-returns-in-Missing c = owes_end _ _ _ _ _ _ c.loop-c.invariant.1.1 (keys_end _ _ _ _ _ _ c.next_item.ensures c.in-Missing.is)
+pub loop-key-preserved : goal.loop-key-preserved
+loop-key-preserved c =
+    let turn = keys_turn c.args.dir.now c.args.base.now (first_key c.next.ensures.steps c.in-Some.is) in
+    left_step _ _ _ _ c.loop-key.invariant _ _ _ turn c.put_key.ensures
 
-pub put_key-k-requires : goal.put_key-k-requires
-put_key-k-requires c = (owes_room _ _ _ _ _ _ c.loop-c.invariant.1.1 _ _ (keys_turn _ _ _ _ _ _ c.next_item.ensures _ _ c.in-At.is) c.requires.0, (item_on _ _ _ _ _ c.next_item.ensures c.in-At.is c.loop-c.invariant.1.0, c.requires.1.1))
-
-pub loop-c-smaller : goal.loop-c-smaller
-loop-c-smaller c = let a = c.args in item_less a.text.now _ _ _ _ c.next_item.ensures c.in-At.is
-
-pub loop-c-preserved : goal.loop-c-preserved
-loop-c-preserved c = (search rules, (item_on _ _ _ _ _ c.next_item.ensures c.in-At.is c.loop-c.invariant.1.0, owes_step _ _ _ _ _ _ c.loop-c.invariant.1.1 _ _ _ _ (keys_turn _ _ _ _ _ _ c.next_item.ensures _ _ c.in-At.is) c.put_key-k.ensures))
+pub returns : goal.returns
+returns c = left_end _ _ _ _ c.loop-key.invariant (keys_end _ (ap (map (built_key c.args.dir.now c.args.base.now)) (last_key c.next.ensures.steps c.in-None.is)))

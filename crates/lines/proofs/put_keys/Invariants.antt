@@ -1,15 +1,9 @@
-use mathlib.Core.Path.{◌≡◌}
-use Prim.Native.Nat.{◌-◌}
-use lib.ListN.{length}
-use Rattle.emit.proofs.Emits.{Owes}
-use Rattle.book.specs.Index.{record_at}
-use Rattle.book.specs.Sound.{All, Good}
+use Rattle.std.proofs.Common.{map}
+use Rattle.emit.proofs.Outputs.{Left}
+use Rattle.record.specs.Lists.{keys_left}
 use Rattle.tsconfig.specs.Listing.{key_rows}
-use Rattle.lines.specs.Lines.{built_keys}
+use Rattle.lines.specs.Lines.{built_key, built_keys}
 use Rattle.lines.proofs.put_keys.Given as goal
 
-abbrev pub invariant-loop-c : goal.invariant-loop-c
-invariant-loop-c l = (length l.out ≡ length l.initial.out) × ((All (Good l.text) (record_at l.commands l.to)) × Owes (key_rows (built_keys l.commands l.text l.dir l.base l.rec)) l.initial.out l.at (key_rows (built_keys l.commands l.text l.dir l.base l.to)) l.out l.k)
-
-abbrev pub decreases-loop-c : goal.decreases-loop-c
-decreases-loop-c l = length l.commands - l.to
+abbrev pub invariant-loop-key : goal.invariant-loop-key
+invariant-loop-key l = Left (key_rows (built_keys l.record l.dir l.base)) l.fn.out (key_rows (map (built_key l.dir l.base) (keys_left l.key-iterator))) l.out

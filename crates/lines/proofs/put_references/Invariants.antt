@@ -1,16 +1,11 @@
-use mathlib.Core.Path.{◌≡◌}
-use Prim.Native.Nat.{◌-◌}
-use lib.ListN.{length}
 use Rattle.text.specs.Bytes.{bytes}
-use Rattle.emit.proofs.Emits.{Owes}
+use Rattle.emit.proofs.Outputs.{Left}
 use Rattle.book.specs.Command as command
 use Rattle.book.specs.Record.{strings}
-use Rattle.book.specs.Index.{record_at}
+use Rattle.record.specs.Good.{read}
+use Rattle.record.specs.Lists.{strings_left}
 use Rattle.tsconfig.specs.Listing.{rows}
 use Rattle.lines.proofs.put_references.Given as goal
 
-abbrev pub invariant-loop-c : goal.invariant-loop-c
-invariant-loop-c l = (length l.out ≡ length l.initial.out) × Owes (rows (bytes "reference") (strings l.text command.reference (record_at l.commands l.rec))) l.initial.out l.at (rows (bytes "reference") (strings l.text command.reference (record_at l.commands l.to))) l.out l.k
-
-abbrev pub decreases-loop-c : goal.decreases-loop-c
-decreases-loop-c l = length l.commands - l.to
+abbrev pub invariant-loop-s : goal.invariant-loop-s
+invariant-loop-s l = Left (rows (bytes "reference") (strings l.record.text.now command.reference (read l.record.commands.now l.record.at))) l.fn.out (rows (bytes "reference") (strings_left l.s-iterator)) l.out

@@ -1,20 +1,19 @@
-use mathlib.Core.Path.{refl}
-use Rattle.emit.proofs.Emits.{owes_all, owes_step, owes_room, owes_end}
-use Rattle.lines.proofs.Turns.{item_less, item_on, item_short, built_end, built_turn}
-use borrow.Author.Rules.{rules}
+use Rattle.std.proofs.Common.{map, ap}
+use Rattle.text.specs.Bytes.{bytes}
+use Rattle.emit.proofs.Outputs.{left_room, left_step, left_end}
+use Rattle.lines.specs.Lines.{built_place}
+use Rattle.lines.proofs.Rows.{rows_turn, rows_end, first_string, last_string}
 use Rattle.lines.proofs.put_root_rows.Goals as goal
 
-pub loop-c-init : goal.loop-c-init
-loop-c-init c = (refl, (c.requires.1.0, owes_all _ _ _))
+pub put_placed-requires-clause-room : goal.put_placed-requires-clause-room
+put_placed-requires-clause-room c =
+    let turn = rows_turn (bytes "rootDir") (ap (map (built_place c.args.dir.now c.dir-own.result.now)) (first_string c.next.ensures.steps c.in-Some.is)) in
+    left_room _ _ _ _ c.loop-s.invariant _ _ turn c.requires.room
 
-pub returns-in-Missing : goal.returns-in-Missing
-returns-in-Missing c = owes_end _ _ _ _ _ _ c.loop-c.invariant.1.1 (built_end _ _ _ _ _ _ c.next_item.ensures _ c.in-Missing.is)
+pub loop-s-preserved : goal.loop-s-preserved
+loop-s-preserved c =
+    let turn = rows_turn (bytes "rootDir") (ap (map (built_place c.args.dir.now c.dir-own.result.now)) (first_string c.next.ensures.steps c.in-Some.is)) in
+    left_step _ _ _ _ c.loop-s.invariant _ _ _ turn c.put_placed.ensures
 
-pub put_placed-k-requires : goal.put_placed-k-requires
-put_placed-k-requires c = (owes_room _ _ _ _ _ _ c.loop-c.invariant.1.1 _ _ (built_turn _ _ _ _ _ _ c.next_item.ensures _ _ _ c.in-At.is _ c.string_of-s.ensures) c.requires.0, (c.requires.1.1.0, (c.requires.1.1.1, item_short _ _ _ _ _ c.next_item.ensures c.in-At.is c.loop-c.invariant.1.0 _ c.string_of-s.ensures)))
-
-pub loop-c-smaller : goal.loop-c-smaller
-loop-c-smaller c = let a = c.args in item_less a.text.now _ _ _ _ c.next_item.ensures c.in-At.is
-
-pub loop-c-preserved : goal.loop-c-preserved
-loop-c-preserved c = (search rules, (item_on _ _ _ _ _ c.next_item.ensures c.in-At.is c.loop-c.invariant.1.0, owes_step _ _ _ _ _ _ c.loop-c.invariant.1.1 _ _ _ _ (built_turn _ _ _ _ _ _ c.next_item.ensures _ _ _ c.in-At.is _ c.string_of-s.ensures) c.put_placed-k.ensures))
+pub returns : goal.returns
+returns c = left_end _ _ _ _ c.loop-s.invariant (rows_end (bytes "rootDir") (ap (map (built_place c.args.dir.now c.dir-own.result.now)) (last_string c.next.ensures.steps c.in-None.is)))

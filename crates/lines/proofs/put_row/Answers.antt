@@ -1,11 +1,17 @@
-use Rattle.lines.proofs.Chains.{room_name, room_value, emits_row}
+use Rattle.emit.proofs.Emits.{room_first}
+use Rattle.emit.proofs.Outputs.{puts_room, puts_both}
+use Rattle.tsconfig.specs.Listing.{row}
+use Rattle.lines.specs.Lines.{valued}
 use Rattle.lines.proofs.put_row.Goals as goal
 
-pub put_text-k-requires : goal.put_text-k-requires
-put_text-k-requires c = room_name _ _ _ c.requires
+pub put_text-requires : goal.put_text-requires
+unfolding row
+put_text-requires c = room_first c.args.name.now (valued c.args.v.now) _ c.requires
 
 pub put_value-requires : goal.put_value-requires
-put_value-requires c = room_value _ _ _ c.requires _ _ _ c.put_text-k.ensures
+unfolding row
+put_value-requires c = puts_room c.args.name.now (valued c.args.v.now) _ _ c.put_text.ensures c.requires
 
 pub returns : goal.returns
-returns c = emits_row _ _ _ c.requires _ _ _ c.put_text-k.ensures _ _ c.put_value.ensures
+unfolding row
+returns c = puts_both c.args.name.now (valued c.args.v.now) _ _ _ c.put_text.ensures c.put_value.ensures

@@ -1,29 +1,49 @@
-use native.Mathlib.Omega.{arith}
-use Rattle.options.proofs.Ways.{reach}
-use Rattle.listing.proofs.Turns.{good_of}
-use Rattle.listing.proofs.Joins.{places_1, places_2, places_3, places_4, places_end}
+use Rattle.std.proofs.Common.{arith, refl, sym, append-nil}
+use Rattle.emit.proofs.Outputs.{left_all, left_room, left_step, left_end}
+use Rattle.options.proofs.Suppliers.{supplied, in_book}
+use Rattle.listing.proofs.Whole.{roots_first, out_first, declarations_first}
 use Rattle.listing.proofs.put_places.Goals as goal
 
-pub begin_at-roots-requires : goal.begin_at-roots-requires
-begin_at-roots-requires c = reach _ _ c.requires.0.reaches 5 (omega arith)
+pub supplier-requires-clause-there : goal.supplier-requires-clause-there
+supplier-requires-clause-there c = in_book c.args.book.now _ c.requires.row _ (omega arith)
 
-pub put_roots-i-requires : goal.put_roots-i-requires
-put_roots-i-requires c = (places_1 _ _ _ _ _ _ c.requires.1.1 _ c.begin_at-roots.ensures, (good_of _ _ _ _ c.requires.0 5 (omega arith) _ c.begin_at-roots.ensures, c.requires.1.0))
+pub put_roots-requires-clause-room : goal.put_roots-requires-clause-room
+put_roots-requires-clause-room c =
+    let a = c.args in
+    left_room _ _ _ _ (left_all _ a.out.now) _ _ (roots_first a.book.now a.row.now c.requires.row a.dir.now c.requires.dir _ (supplied a.book.now a.row.now 5 c.supplier.result c.supplier.ensures.at c.supplier.ensures.commands c.supplier.ensures.text)) c.requires.room
 
-pub begin_at-output-requires : goal.begin_at-output-requires
-begin_at-output-requires c = reach _ _ c.requires.0.reaches 6 (omega arith)
+pub supplier-requires-2-clause-there : goal.supplier-requires-2-clause-there
+supplier-requires-2-clause-there c = in_book c.args.book.now _ c.requires.row _ (omega arith)
 
-pub put_place-j-requires : goal.put_place-j-requires
-put_place-j-requires c = (places_2 _ _ _ _ _ _ c.requires.1.1 _ c.begin_at-roots.ensures _ _ _ c.put_roots-i.ensures _ c.begin_at-output.ensures, (good_of _ _ _ _ c.requires.0 6 (omega arith) _ c.begin_at-output.ensures, c.requires.1.0))
+pub put_place-requires-clause-room : goal.put_place-requires-clause-room
+put_place-requires-clause-room c =
+    let a = c.args in
+    let l1 = left_step _ _ _ _ (left_all _ _) _ _ _ (roots_first a.book.now a.row.now c.requires.row a.dir.now c.requires.dir _ (supplied a.book.now a.row.now 5 c.supplier.result c.supplier.ensures.at c.supplier.ensures.commands c.supplier.ensures.text)) c.put_roots.ensures in
+    left_room _ _ _ _ l1 _ _ (out_first a.book.now a.row.now c.requires.row a.dir.now c.requires.dir _ (supplied a.book.now a.row.now 6 c.supplier-2.result c.supplier-2.ensures.at c.supplier-2.ensures.commands c.supplier-2.ensures.text)) c.requires.room
 
-pub begin_at-declarations-requires : goal.begin_at-declarations-requires
-begin_at-declarations-requires c = reach _ _ c.requires.0.reaches 7 (omega arith)
+pub supplier-requires-3-clause-there : goal.supplier-requires-3-clause-there
+supplier-requires-3-clause-there c = in_book c.args.book.now _ c.requires.row _ (omega arith)
 
-pub put_place-k-requires : goal.put_place-k-requires
-put_place-k-requires c = (places_3 _ _ _ _ _ _ c.requires.1.1 _ c.begin_at-roots.ensures _ _ _ c.put_roots-i.ensures _ c.begin_at-output.ensures _ _ c.put_place-j.ensures _ c.begin_at-declarations.ensures, (good_of _ _ _ _ c.requires.0 7 (omega arith) _ c.begin_at-declarations.ensures, c.requires.1.0))
+pub put_place-requires-2-clause-room : goal.put_place-requires-2-clause-room
+put_place-requires-2-clause-room c =
+    let a = c.args in
+    let l1 = left_step _ _ _ _ (left_all _ _) _ _ _ (roots_first a.book.now a.row.now c.requires.row a.dir.now c.requires.dir _ (supplied a.book.now a.row.now 5 c.supplier.result c.supplier.ensures.at c.supplier.ensures.commands c.supplier.ensures.text)) c.put_roots.ensures in
+    let l2 = left_step _ _ _ _ l1 _ _ _ (out_first a.book.now a.row.now c.requires.row a.dir.now c.requires.dir _ (supplied a.book.now a.row.now 6 c.supplier-2.result c.supplier-2.ensures.at c.supplier-2.ensures.commands c.supplier-2.ensures.text)) c.put_place.ensures in
+    left_room _ _ _ _ l2 _ _ (declarations_first a.book.now a.row.now c.requires.row a.dir.now c.requires.dir _ (supplied a.book.now a.row.now 7 c.supplier-3.result c.supplier-3.ensures.at c.supplier-3.ensures.commands c.supplier-3.ensures.text)) c.requires.room
 
-pub put_options-requires : goal.put_options-requires
-put_options-requires c = (c.requires.0.reaches, places_4 _ _ _ _ _ _ c.requires.1.1 _ c.begin_at-roots.ensures _ _ _ c.put_roots-i.ensures _ c.begin_at-output.ensures _ _ c.put_place-j.ensures _ c.begin_at-declarations.ensures _ _ c.put_place-k.ensures)
+pub put_options-requires-clause-room : goal.put_options-requires-clause-room
+put_options-requires-clause-room c =
+    let a = c.args in
+    let l1 = left_step _ _ _ _ (left_all _ _) _ _ _ (roots_first a.book.now a.row.now c.requires.row a.dir.now c.requires.dir _ (supplied a.book.now a.row.now 5 c.supplier.result c.supplier.ensures.at c.supplier.ensures.commands c.supplier.ensures.text)) c.put_roots.ensures in
+    let l2 = left_step _ _ _ _ l1 _ _ _ (out_first a.book.now a.row.now c.requires.row a.dir.now c.requires.dir _ (supplied a.book.now a.row.now 6 c.supplier-2.result c.supplier-2.ensures.at c.supplier-2.ensures.commands c.supplier-2.ensures.text)) c.put_place.ensures in
+    let l3 = left_step _ _ _ _ l2 _ _ _ (declarations_first a.book.now a.row.now c.requires.row a.dir.now c.requires.dir _ (supplied a.book.now a.row.now 7 c.supplier-3.result c.supplier-3.ensures.at c.supplier-3.ensures.commands c.supplier-3.ensures.text)) c.put_place-2.ensures in
+    left_room _ _ _ _ l3 _ _ (sym (append-nil _)) c.requires.room
 
 pub returns : goal.returns
-returns c = places_end _ _ _ _ _ _ c.requires.1.1 _ c.begin_at-roots.ensures _ _ _ c.put_roots-i.ensures _ c.begin_at-output.ensures _ _ c.put_place-j.ensures _ c.begin_at-declarations.ensures _ _ c.put_place-k.ensures _ _ c.put_options.ensures
+returns c =
+    let a = c.args in
+    let l1 = left_step _ _ _ _ (left_all _ _) _ _ _ (roots_first a.book.now a.row.now c.requires.row a.dir.now c.requires.dir _ (supplied a.book.now a.row.now 5 c.supplier.result c.supplier.ensures.at c.supplier.ensures.commands c.supplier.ensures.text)) c.put_roots.ensures in
+    let l2 = left_step _ _ _ _ l1 _ _ _ (out_first a.book.now a.row.now c.requires.row a.dir.now c.requires.dir _ (supplied a.book.now a.row.now 6 c.supplier-2.result c.supplier-2.ensures.at c.supplier-2.ensures.commands c.supplier-2.ensures.text)) c.put_place.ensures in
+    let l3 = left_step _ _ _ _ l2 _ _ _ (declarations_first a.book.now a.row.now c.requires.row a.dir.now c.requires.dir _ (supplied a.book.now a.row.now 7 c.supplier-3.result c.supplier-3.ensures.at c.supplier-3.ensures.commands c.supplier-3.ensures.text)) c.put_place-2.ensures in
+    let l4 = left_step _ _ _ _ l3 _ _ _ (sym (append-nil _)) c.put_options.ensures in
+    left_end _ _ _ _ l4 refl

@@ -1,17 +1,35 @@
-use Rattle.mapping.proofs.Mapped.{equal_asks, equal_gives, best_none, best_asks, best_gives}
+use Rattle.std.proofs.Common.{◌≤◌, length, option_map, sym, ap, ◌∙◌, arith}
+use Rattle.record.specs.Good.{read}
+use Rattle.record.specs.Lists.{key_of}
+use Rattle.values.proofs.Lengths.{record_length}
+use Rattle.targets.proofs.Aims.{lists_none}
+use Rattle.mapping.proofs.Mapped.{equal_small, best_small, equal_wanted, none_wanted, best_wanted, part_length, part_short}
 use Rattle.mapping.proofs.put_mapped.Goals as goal
 
-pub put_targets-requires : goal.put_targets-requires
-put_targets-requires c = equal_asks c.args.commands.now c.args.text.now c.args.dir.now c.args.base.now c.args.spec.now c.args.rec c.args.at c.requires _ c.equal_key.ensures c.in-At.is
+pub put_targets-requires-clause-room : goal.put_targets-requires-clause-room
+put_targets-requires-clause-room c =
+    let r = c.args.record.now in
+    let l : length (read r.commands.now r.at) ≤ 32768 = omega (arith, record_length r.commands.now r.at, c.requires.book) in
+    record { few = (equal_small r.text.now 32768 _ r.good l c.args.spec.now _ (sym c.equal_key.ensures.value ∙ ap (option_map key_of) c.in-Some.is)).few; near = c.requires.near }
 
-pub returns-in-At : goal.returns-in-At
-returns-in-At c = equal_gives c.args.commands.now c.args.text.now c.args.dir.now c.args.base.now c.args.spec.now c.args.rec c.args.at c.requires _ c.equal_key.ensures c.in-At.is _ _ _ c.put_targets.ensures
+pub returns-in-Some : goal.returns-in-Some
+returns-in-Some c =
+    rw (← equal_wanted c.args.dir.now c.args.base.now c.args.spec.now _ _ (sym c.equal_key.ensures.value ∙ ap (option_map key_of) c.in-Some.is)) c.put_targets.ensures
 
-pub returns-in-Missing-best_key : goal.returns-in-Missing-best_key
-returns-in-Missing-best_key c = best_none c.args.commands.now c.args.text.now c.args.dir.now c.args.base.now c.args.spec.now c.args.rec c.args.at c.requires _ c.equal_key.ensures c.in-Missing.is _ c.best_key.ensures c.in-Missing-best_key.is _
+pub returns-in_default-best_key : goal.returns-in_default-best_key
+returns-in_default-best_key c =
+    rw (none_wanted c.args.dir.now c.args.base.now c.args.spec.now _ (sym c.equal_key.ensures.value ∙ ap (option_map key_of) c.in_default.is) (sym c.best_key.ensures.value ∙ ap (option_map key_of) c.in_default-best_key.is)) (lists_none _)
 
-pub put_targets-requires-in-At-best_key : goal.put_targets-requires-in-At-best_key
-put_targets-requires-in-At-best_key c = best_asks c.args.commands.now c.args.text.now c.args.dir.now c.args.base.now c.args.spec.now c.args.rec c.args.at c.requires _ c.equal_key.ensures c.in-Missing.is _ c.best_key.ensures c.in-At-best_key.is _ c.string_of-key.ensures _ c.key_match-part.ensures.1
+pub put_targets-requires-2-clause-short : goal.put_targets-requires-2-clause-short
+put_targets-requires-2-clause-short c =
+    record { dir_short = c.requires.dir; base_short = c.requires.base; part_short = rw c.key_match.ensures (part_short c.args.spec.now _ (part_length c.in-Some-best_key.key.name.now c.args.spec.now) c.requires.spec) }
 
-pub returns-in-At-best_key : goal.returns-in-At-best_key
-returns-in-At-best_key c = best_gives c.args.commands.now c.args.text.now c.args.dir.now c.args.base.now c.args.spec.now c.args.rec c.args.at c.requires _ c.equal_key.ensures c.in-Missing.is _ c.best_key.ensures c.in-At-best_key.is _ c.string_of-key.ensures _ c.key_match-part.ensures.1 _ _ _ c.put_targets-in-At-best_key.ensures
+pub put_targets-requires-2-clause-room : goal.put_targets-requires-2-clause-room
+put_targets-requires-2-clause-room c =
+    let r = c.args.record.now in
+    let l : length (read r.commands.now r.at) ≤ 32768 = omega (arith, record_length r.commands.now r.at, c.requires.book) in
+    record { few = (best_small r.text.now 32768 _ r.good l c.args.spec.now _ (sym c.best_key.ensures.value ∙ ap (option_map key_of) c.in-Some-best_key.is)).few; near = c.requires.near }
+
+pub returns : goal.returns
+returns c =
+    rw (← best_wanted c.args.dir.now c.args.base.now c.args.spec.now _ (sym c.equal_key.ensures.value ∙ ap (option_map key_of) c.in_default.is) _ (sym c.best_key.ensures.value ∙ ap (option_map key_of) c.in-Some-best_key.is) _ c.key_match.ensures) c.put_targets-2.ensures

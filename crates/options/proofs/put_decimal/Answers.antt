@@ -1,17 +1,17 @@
-use Rattle.options.proofs.Numbers.{room_low, emits_low, room_one, room_unit, emits_high}
+use Rattle.std.proofs.Common.{sym}
+use Rattle.emit.proofs.Outputs.{puts_by}
+use Rattle.lines.proofs.Rows.{room_as}
+use Rattle.options.proofs.Numbers.{decimal_low, decimal_high}
 use Rattle.options.proofs.put_decimal.Goals as goal
 
 pub put-requires : goal.put-requires
-put-requires c = room_low _ _ c.requires.1 c.if-id-lt10.true
+put-requires c = room_as (decimal_low _ c.if-id-lt10.true) c.requires.room
+
+pub put_text-requires : goal.put_text-requires
+put_text-requires c = room_as (decimal_high _ c.if-id-lt10.false) c.requires.room
 
 pub returns-then-id-lt10 : goal.returns-then-id-lt10
-returns-then-id-lt10 c = emits_low _ _ c.requires.1 c.if-id-lt10.true _ _ _ c.put.ensures
+returns-then-id-lt10 c = puts_by _ _ _ _ (sym (decimal_low _ c.if-id-lt10.true)) c.put.ensures
 
-pub put-k-requires : goal.put-k-requires
-put-k-requires c = room_one _ _ c.requires.1 c.if-id-lt10.false
-
-pub put-requires-2 : goal.put-requires-2
-put-requires-2 c = room_unit _ _ c.requires.1 c.if-id-lt10.false _ _ _ c.put-k.ensures
-
-pub returns : goal.returns
-returns c = emits_high _ _ c.requires.1 c.if-id-lt10.false _ _ _ c.put-k.ensures _ _ c.put-2.ensures
+pub returns-else-id-lt10 : goal.returns-else-id-lt10
+returns-else-id-lt10 c = puts_by _ _ _ _ (sym (decimal_high _ c.if-id-lt10.false)) c.put_text.ensures

@@ -1,15 +1,23 @@
-use Rattle.lines.proofs.Rows.{room_as, emits_as, emits_nothing}
-use Rattle.options.proofs.Ways.{flag_none, flag_unset, flag_set}
+use Rattle.std.proofs.Common.{sym, ◌∙◌}
+use Rattle.emit.proofs.Outputs.{puts_by}
+use Rattle.lines.proofs.Rows.{puts_nothing, room_as}
+use Rattle.options.proofs.Suppliers.{flag_none, flag_unset, flag_set, flag_true, flag_false}
 use Rattle.options.proofs.put_flag.Goals as goal
 
 pub returns-in_default : goal.returns-in_default
-returns-in_default c = let a = c.args in emits_nothing _ _ _ (flag_none _ a.commands.now _ c.in_default.is _)
+returns-in_default c = puts_nothing _ _ (flag_none _ _ c.in_default.is)
 
-pub returns-in-Missing : goal.returns-in-Missing
-returns-in-Missing c = let a = c.args in emits_nothing _ _ _ (flag_unset _ a.commands.now _ _ c.in-At.is _ _ c.next_option.ensures c.in-Missing.is)
+pub put_option-requires-clause-room : goal.put_option-requires-clause-room
+put_option-requires-clause-room c = room_as (sym (flag_true c.args.id c.in-Some-true.field-0-test ∙ flag_set _ _ c.in-Some.is c.flag.ensures c.in-Some-true.is)) c.requires.room
 
-pub put_flag_row-requires : goal.put_flag_row-requires
-put_flag_row-requires c = let a = c.args in (c.requires.0, room_as _ (flag_set _ a.commands.now _ _ c.in-At.is _ _ c.next_option.ensures c.in-At-next_option.is) c.requires.1)
+pub put_option-requires-in-Some-false-clause-room : goal.put_option-requires-in-Some-false-clause-room
+put_option-requires-in-Some-false-clause-room c = room_as (sym (flag_false c.args.id c.in-Some-false.field-0-test ∙ flag_set _ _ c.in-Some.is c.flag.ensures c.in-Some-false.is)) c.requires.room
 
-pub returns-in-At-next_option : goal.returns-in-At-next_option
-returns-in-At-next_option c = let a = c.args in emits_as _ (flag_set _ a.commands.now _ _ c.in-At.is _ _ c.next_option.ensures c.in-At-next_option.is) _ _ _ c.put_flag_row.ensures
+pub returns-in-Some-true : goal.returns-in-Some-true
+returns-in-Some-true c = puts_by _ _ _ _ (flag_true c.args.id c.in-Some-true.field-0-test ∙ flag_set _ _ c.in-Some.is c.flag.ensures c.in-Some-true.is) c.put_option.ensures
+
+pub returns-in-Some-false : goal.returns-in-Some-false
+returns-in-Some-false c = puts_by _ _ _ _ (flag_false c.args.id c.in-Some-false.field-0-test ∙ flag_set _ _ c.in-Some.is c.flag.ensures c.in-Some-false.is) c.put_option-in-Some-false.ensures
+
+pub returns-in-None : goal.returns-in-None
+returns-in-None c = puts_nothing _ _ (flag_unset _ _ c.in-Some.is c.flag.ensures c.in-None.is)

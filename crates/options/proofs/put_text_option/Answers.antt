@@ -1,15 +1,17 @@
-use Rattle.lines.proofs.Rows.{room_as, emits_as, emits_nothing}
-use Rattle.options.proofs.Ways.{text_none, text_unset, text_set}
+use Rattle.std.proofs.Common.{sym}
+use Rattle.emit.proofs.Outputs.{puts_by}
+use Rattle.lines.proofs.Rows.{puts_nothing, room_as}
+use Rattle.options.proofs.Suppliers.{text_none, text_unset, text_set}
 use Rattle.options.proofs.put_text_option.Goals as goal
 
 pub returns-in_default : goal.returns-in_default
-returns-in_default c = emits_nothing _ _ _ (text_none _ _ _ c.in_default.is _)
+returns-in_default c = puts_nothing _ _ (text_none _ _ c.in_default.is)
 
-pub returns-in-Missing : goal.returns-in-Missing
-returns-in-Missing c = emits_nothing _ _ _ (text_unset _ _ _ _ c.in-At.is _ _ c.next_option.ensures c.in-Missing.is)
+pub put_option-requires-clause-room : goal.put_option-requires-clause-room
+put_option-requires-clause-room c = room_as (sym (text_set c.args.id _ c.in-Some.is c.text_option.ensures.value c.in-Some-text_option.is)) c.requires.room
 
-pub put_option-requires : goal.put_option-requires
-put_option-requires c = (c.requires.0, room_as _ (text_set _ _ _ _ c.in-At.is _ _ c.next_option.ensures c.in-At-next_option.is _ c.string_of-s.ensures) c.requires.1)
+pub returns-in-Some-text_option : goal.returns-in-Some-text_option
+returns-in-Some-text_option c = puts_by _ _ _ _ (text_set c.args.id _ c.in-Some.is c.text_option.ensures.value c.in-Some-text_option.is) c.put_option.ensures
 
-pub returns-in-At-next_option : goal.returns-in-At-next_option
-returns-in-At-next_option c = emits_as _ (text_set _ _ _ _ c.in-At.is _ _ c.next_option.ensures c.in-At-next_option.is _ c.string_of-s.ensures) _ _ _ c.put_option.ensures
+pub returns-in_default-text_option : goal.returns-in_default-text_option
+returns-in_default-text_option c = puts_nothing _ _ (text_unset c.args.id _ c.in-Some.is c.text_option.ensures.value c.in_default-text_option.is)

@@ -1,28 +1,40 @@
-use Rattle.root_tries.proofs.Rests.{root_asks, root_none, root_short, path_asks, root_alone, rest_asks, root_few, root_all}
-use native.Mathlib.Omega.{arith}
-use borrow.Author.Rules.{rules}
+use Rattle.std.proofs.Common.{Some, ◌≤◌, length, option_copied, option_map, sym, ap, ◌∙◌, arith}
+use Rattle.targets.proofs.Lays.{laid_one_length}
+use Rattle.roots.specs.Roots.{built_place}
+use Rattle.root_tries.proofs.Others.{others_few}
+use Rattle.root_tries.proofs.Prefixes.{strip_le}
+use Rattle.root_tries.proofs.Rests.{tries_none, tries_alone, tries_on}
 use Rattle.root_tries.proofs.put_root_tries.Goals as goal
 
-pub best_root-requires : goal.best_root-requires
-best_root-requires c = root_asks c.args.commands.now c.args.text.now c.args.rec c.args.dir.now c.args.p.now c.args.at c.requires _ c.dir_at-own.ensures
-
-pub returns-in-Missing : goal.returns-in-Missing
-returns-in-Missing c = root_none c.args.commands.now c.args.text.now c.args.rec c.args.dir.now c.args.p.now c.args.at c.requires _ c.dir_at-own.ensures _ c.best_root.ensures c.in-Missing.is _
-
-pub build_place-n-requires : goal.build_place-n-requires
-build_place-n-requires c = (c.requires.0.1, ((root_asks c.args.commands.now c.args.text.now c.args.rec c.args.dir.now c.args.p.now c.args.at c.requires _ c.dir_at-own.ensures).own_short, (root_short c.args.commands.now c.args.text.now c.args.rec c.args.dir.now c.args.p.now c.args.at c.requires _ c.dir_at-own.ensures _ c.best_root.ensures c.in-At.is _ c.string_of-s.ensures, search rules)))
-
-pub put_path-k-requires : goal.put_path-k-requires
-put_path-k-requires c = path_asks c.args.commands.now c.args.text.now c.args.rec c.args.dir.now c.args.p.now c.args.at c.requires _ c.dir_at-own.ensures _ c.best_root.ensures c.in-At.is _ c.string_of-s.ensures _ _ c.build_place-n.ensures _ c.upto-root.ensures
-
 pub returns-in_default : goal.returns-in_default
-returns-in_default c = root_alone c.args.commands.now c.args.text.now c.args.rec c.args.dir.now c.args.p.now c.args.at c.requires _ c.dir_at-own.ensures _ c.best_root.ensures c.in-At.is _ c.string_of-s.ensures _ _ c.build_place-n.ensures _ c.upto-root.ensures _ _ _ c.put_path-k.ensures _ c.strip_prefix.ensures c.in_default.is
+returns-in_default c =
+    let place = built_place c.args.dir.now c.dir-own.result.now in
+    rw (← c.dir-own.ensures.value) (tries_none c.args.p.now _ _ (sym c.best_root.ensures.value ∙ ap (λ o. option_map place (option_copied o)) c.in_default.is))
 
-pub put_in_roots-others-requires : goal.put_in_roots-others-requires
-put_in_roots-others-requires c = rest_asks c.args.commands.now c.args.text.now c.args.rec c.args.dir.now c.args.p.now c.args.at c.requires _ c.dir_at-own.ensures _ c.best_root.ensures c.in-At.is _ c.string_of-s.ensures _ _ c.build_place-n.ensures _ c.upto-root.ensures _ _ _ c.put_path-k.ensures _ c.strip_prefix.ensures c.in-Span.is _ c.between-rest.ensures
+pub put_path-requires-clause-room : goal.put_path-requires-clause-room
+put_path-requires-clause-room c = record { room = omega (arith, laid_one_length c.args.p.now, c.requires.p, c.requires.near) }
 
-pub overflow_add-count : goal.overflow_add-count
-overflow_add-count c = let a = root_few c.args.commands.now c.args.text.now c.args.rec c.args.dir.now c.args.p.now c.args.at c.requires _ c.dir_at-own.ensures _ c.best_root.ensures c.in-At.is _ c.string_of-s.ensures _ _ c.build_place-n.ensures _ c.upto-root.ensures _ _ _ c.put_path-k.ensures _ c.strip_prefix.ensures c.in-Span.is _ c.between-rest.ensures _ _ c.put_in_roots-others.ensures in omega (arith, a)
+pub put_in_roots-requires-clause-rest : goal.put_in_roots-requires-clause-rest
+put_in_roots-requires-clause-rest c = omega (arith, strip_le c.args.p.now _ _ (sym c.strip_prefix.ensures ∙ ap option_copied c.in-Some-strip_prefix.is), c.requires.p)
 
-pub returns-in-At : goal.returns-in-At
-returns-in-At c = root_all c.args.commands.now c.args.text.now c.args.rec c.args.dir.now c.args.p.now c.args.at c.requires _ c.dir_at-own.ensures _ c.best_root.ensures c.in-At.is _ c.string_of-s.ensures _ _ c.build_place-n.ensures _ c.upto-root.ensures _ _ _ c.put_path-k.ensures _ c.strip_prefix.ensures c.in-Span.is _ c.between-rest.ensures _ _ c.put_in_roots-others.ensures
+pub put_in_roots-requires-clause-near : goal.put_in_roots-requires-clause-near
+put_in_roots-requires-clause-near c = omega (arith, c.put_path.ensures.wrote.next, laid_one_length c.args.p.now, c.requires.p, c.requires.near)
+
+pub overflow_add-result : goal.overflow_add-result
+overflow_add-result c =
+    let a = c.args in
+    let r = a.record.now in
+    let rest : length c.in-Some-strip_prefix.rest.now ≤ 1100 = omega (arith, strip_le a.p.now _ _ (sym c.strip_prefix.ensures ∙ ap option_copied c.in-Some-strip_prefix.is), c.requires.p) in
+    omega (arith, c.put_in_roots.ensures.counts, others_few c.build_place-root.result.now c.in-Some-strip_prefix.rest.now a.dir.now c.dir-own.result.now c.requires.dir c.dir-own.ensures.short rest r.commands.now r.text.now r.at r.good c.requires.book)
+
+pub returns-in-Some-strip_prefix : goal.returns-in-Some-strip_prefix
+returns-in-Some-strip_prefix c =
+    let place = built_place c.args.dir.now c.dir-own.result.now in
+    let best = sym c.best_root.ensures.value ∙ ap (λ o. option_map place (option_copied o)) c.in-Some.is ∙ ap Some (sym c.build_place-root.ensures) in
+    rw (← c.dir-own.ensures.value) (tries_on c.args.p.now _ _ _ best _ c.put_path.ensures _ (sym c.strip_prefix.ensures ∙ ap option_copied c.in-Some-strip_prefix.is) _ _ c.put_in_roots.ensures)
+
+pub returns-in-None : goal.returns-in-None
+returns-in-None c =
+    let place = built_place c.args.dir.now c.dir-own.result.now in
+    let best = sym c.best_root.ensures.value ∙ ap (λ o. option_map place (option_copied o)) c.in-Some.is ∙ ap Some (sym c.build_place-root.ensures) in
+    rw (← c.dir-own.ensures.value) (tries_alone c.args.p.now _ _ _ best _ c.put_path.ensures (sym c.strip_prefix.ensures ∙ ap option_copied c.in-None.is))

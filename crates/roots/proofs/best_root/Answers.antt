@@ -1,34 +1,42 @@
-use Rattle.roots.proofs.Roots.{bests_start, bests_end, bests_short, bests_small, bests_shorter, bests_other, bests_taken, roots_less}
-use native.Mathlib.Omega.{arith}
-use borrow.Author.Rules.{rules}
+use Rattle.std.proofs.Common.{suc, length, map, option_copied, option_map, sym, ap, ◌∙◌, add-one}
+use Rattle.tsconfig.specs.Mapping.{root_above}
+use Rattle.roots.specs.Roots.{built_place}
+use Rattle.roots.proofs.Roots.{root_end, root_shorter, root_other, root_taken}
+use Rattle.roots.proofs.best_root.Goals.{else-least-root-via-then-least-root+else-lies_under, else-least-root-via-else-least-root}
 use Rattle.roots.proofs.best_root.Goals as goal
 
-pub loop-best-init : goal.loop-best-init
-loop-best-init c = bests_start _ _ _ _ _ c.args.p.now c.requires
+pub loop-s-preserved-then-lies_under : goal.loop-s-preserved-then-lies_under
+loop-s-preserved-then-lies_under c =
+    let i = c.loop-s.invariant in
+    let p = c.args.p.now in
+    let place = built_place c.args.dir.now c.args.own.now in
+    let b = option_map place (option_copied c.loop-s.best) in
+    let on = ap (root_above p b) (sym (ap (map place) c.in-Some.ensures.steps.first)) ∙ i.left in
+    record {
+      left = sym (root_taken p b (place c.in-Some.s.now) _ _ c.build_place-root.ensures _ i.least_is _ c.lies_under.ensures c.if-lies_under.true c.if-least-root.true) ∙ on;
+      least_is = add-one (length c.build_place-root.result.now) ∙ ap suc (ap length c.build_place-root.ensures);
+      short = c.in-Some.ensures.steps.short;
+    }
 
-pub returns-in-Missing : goal.returns-in-Missing
-returns-in-Missing c = bests_end _ _ _ _ _ c.args.p.now c.requires _ _ _ c.loop-best.invariant _ c.next_item.ensures c.in-Missing.is
+pub loop-s-preserved : goal.loop-s-preserved
+loop-s-preserved c =
+    let i = c.loop-s.invariant in
+    let p = c.args.p.now in
+    let place = built_place c.args.dir.now c.args.own.now in
+    let b = option_map place (option_copied c.loop-s.best) in
+    let on = ap (root_above p b) (sym (ap (map place) c.in-Some.ensures.steps.first)) ∙ i.left in
+    record {
+      left = elim c.else-least-root.branch [
+        | else-least-root-via-then-least-root+else-lies_under w ↦
+            sym (root_other p b (place c.in-Some.s.now) _ _ c.build_place-root.ensures _ i.least_is _ w.lies_under.ensures w.if-lies_under.false) ∙ on
+        | else-least-root-via-else-least-root w ↦
+            sym (root_shorter p b (place c.in-Some.s.now) _ _ c.build_place-root.ensures _ i.least_is w.if-least-root.false) ∙ on
+      ];
+      least_is = i.least_is;
+      short = i.short;
+    }
 
-pub build_place-n-requires : goal.build_place-n-requires
-build_place-n-requires c = (c.requires.dir_short, (c.requires.own_short, (bests_short _ _ _ _ _ c.args.p.now c.requires _ _ _ c.loop-best.invariant _ c.next_item.ensures c.in-At.is _ c.string_of-s.ensures, search rules)))
-
-pub loop-best-smaller-then-n-least : goal.loop-best-smaller-then-n-least
-loop-best-smaller-then-n-least c = roots_less _ c.args.text.now _ _ c.next_item.ensures c.in-At.is
-
-pub loop-best-preserved-then-n-least : goal.loop-best-preserved-then-n-least
-loop-best-preserved-then-n-least c = bests_shorter _ _ _ _ _ c.args.p.now c.requires _ _ _ c.loop-best.invariant _ c.next_item.ensures c.in-At.is _ c.string_of-s.ensures _ _ c.build_place-n.ensures c.if-n-least.true
-
-pub loop-best-smaller-then-not-lies_under : goal.loop-best-smaller-then-not-lies_under
-loop-best-smaller-then-not-lies_under c = roots_less _ c.args.text.now _ _ c.next_item.ensures c.in-At.is
-
-pub loop-best-preserved-then-not-lies_under : goal.loop-best-preserved-then-not-lies_under
-loop-best-preserved-then-not-lies_under c = bests_other _ _ _ _ _ c.args.p.now c.requires _ _ _ c.loop-best.invariant _ c.next_item.ensures c.in-At.is _ c.string_of-s.ensures _ _ c.build_place-n.ensures _ c.upto-root.ensures _ c.lies_under.ensures c.if-not-lies_under.true
-
-pub overflow_add-least : goal.overflow_add-least
-overflow_add-least c = let a = bests_small _ _ _ _ _ c.args.p.now c.requires _ _ _ c.loop-best.invariant _ c.next_item.ensures c.in-At.is _ c.string_of-s.ensures _ _ c.build_place-n.ensures in omega (arith, a)
-
-pub loop-best-smaller : goal.loop-best-smaller
-loop-best-smaller c = roots_less _ c.args.text.now _ _ c.next_item.ensures c.in-At.is
-
-pub loop-best-preserved : goal.loop-best-preserved
-loop-best-preserved c = bests_taken _ _ _ _ _ c.args.p.now c.requires _ _ _ c.loop-best.invariant _ c.next_item.ensures c.in-At.is _ c.string_of-s.ensures _ _ c.build_place-n.ensures _ c.upto-root.ensures _ c.lies_under.ensures c.if-not-lies_under.false c.if-n-least.false
+pub returns-clause-value : goal.returns-clause-value
+returns-clause-value c =
+    let place = built_place c.args.dir.now c.args.own.now in
+    sym (root_end c.args.p.now _ _ (ap (map place) c.in-None.ensures.steps.first.0)) ∙ c.loop-s.invariant.left

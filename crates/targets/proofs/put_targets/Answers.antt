@@ -1,26 +1,32 @@
-use mathlib.Core.List.{[]}
-use mathlib.Core.Bool.{true}
-use Rattle.targets.proofs.Aims.{puts_start, puts_end, puts_asks, puts_few, puts_on, as_less}
-use native.Mathlib.Omega.{arith}
+use Rattle.std.proofs.Common.{length, ap, option_copied, arith}
+use lib.ListN.{length-map}
+use Rattle.emit.proofs.Outputs.{left_room, left_step, left_end}
+use Rattle.record.specs.Lists.{targets_left}
+use Rattle.targets.specs.Targets.{target_as}
+use Rattle.targets.proofs.Aims.{targets_short, targets_room, laid_next, laid_end}
 use Rattle.targets.proofs.put_targets.Goals as goal
 
-pub loop-c-init : goal.loop-c-init
-loop-c-init c = puts_start _ _ _ _ _ _ _ _ _ c.requires
+pub put_target-requires-clause-room : goal.put_target-requires-clause-room
+put_target-requires-clause-room c =
+    let a = c.args in
+    let f = target_as a.dir.now a.base.now (option_copied a.part) in
+    let r = a.targets.record in
+    left_room _ _ _ _ c.loop-t.invariant.left _ _ (laid_next f _ _ _ c.in-Some.ensures.steps.first) (targets_room a.dir.now a.base.now _ c.requires.short _ _ (targets_short r.text.now _ r.good) c.requires.room)
 
-pub shape_of-out-in-Missing : goal.shape_of-out-in-Missing
-shape_of-out-in-Missing c = c.loop-c.invariant.long
+pub loop-t-preserved : goal.loop-t-preserved
+loop-t-preserved c =
+    let a = c.args in
+    let f = target_as a.dir.now a.base.now (option_copied a.part) in
+    record {
+      left = left_step _ _ _ _ c.loop-t.invariant.left _ _ _ (laid_next f _ _ _ c.in-Some.ensures.steps.first) c.put_target.ensures;
+      counts = omega (arith, c.loop-t.invariant.counts, ap length c.in-Some.ensures.steps.first);
+    }
 
-pub returns-in-Missing : goal.returns-in-Missing
-returns-in-Missing c = puts_end _ _ _ _ _ _ _ _ _ c.requires _ _ _ _ c.loop-c.invariant _ c.next_target.ensures c.in-Missing.is
-
-pub put_target-k-requires : goal.put_target-k-requires
-put_target-k-requires c = puts_asks _ _ _ _ _ _ _ _ _ c.requires _ _ _ _ c.loop-c.invariant _ c.next_target.ensures c.in-At.is _ c.string_of-t.ensures
-
-pub overflow_add-count : goal.overflow_add-count
-overflow_add-count c = let a = puts_few _ _ _ _ _ _ _ _ _ c.requires _ _ _ _ c.loop-c.invariant _ c.next_target.ensures c.in-At.is _ c.string_of-t.ensures in omega (arith, a)
-
-pub loop-c-smaller : goal.loop-c-smaller
-loop-c-smaller c = as_less _ c.args.text.now [] [] true [] _ _ c.next_target.ensures c.in-At.is
-
-pub loop-c-preserved : goal.loop-c-preserved
-loop-c-preserved c = puts_on _ _ _ _ _ _ _ _ _ c.requires _ _ _ _ c.loop-c.invariant _ c.next_target.ensures c.in-At.is _ c.string_of-t.ensures _ _ c.put_target-k.ensures
+pub returns : goal.returns
+returns c =
+    let a = c.args in
+    let f = target_as a.dir.now a.base.now (option_copied a.part) in
+    record {
+      counts = omega (arith, c.loop-t.invariant.counts, ap length c.in-None.ensures.steps.first.0, length-map (targets_left a.targets) f);
+      puts = left_end _ _ _ _ c.loop-t.invariant.left (laid_end f _ c.in-None.ensures.steps.first.0);
+    }

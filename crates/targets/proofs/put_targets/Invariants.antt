@@ -1,10 +1,12 @@
-use Prim.Native.Nat.{◌-◌}
-use lib.ListN.{length}
-use Rattle.targets.proofs.Aims.{Puts}
+use Rattle.std.proofs.Common.{◌≡◌, ◌+◌, map, length, option_copied}
+use Rattle.emit.proofs.Outputs.{Left}
+use Rattle.record.specs.Lists.{targets_left}
+use Rattle.tsconfig.specs.Laid.{laid}
+use Rattle.targets.specs.Targets.{target_as}
 use Rattle.targets.proofs.put_targets.Given as goal
 
-abbrev pub invariant-loop-c : goal.invariant-loop-c
-invariant-loop-c l = Puts l.commands l.text l.dir l.base l.fill l.part l.at l.next l.initial.out l.out l.k l.to l.count
-
-abbrev pub decreases-loop-c : goal.decreases-loop-c
-decreases-loop-c l = length l.commands - l.to
+abbrev pub invariant-loop-t : goal.invariant-loop-t
+invariant-loop-t l = record {
+  left : Left (laid (map (target_as l.dir l.base (option_copied l.part)) (targets_left l.fn.targets))) l.fn.out (laid (map (target_as l.dir l.base (option_copied l.part)) (targets_left l.t-iterator))) l.out;
+  counts : l.count + length (targets_left l.t-iterator) ≡ length (targets_left l.fn.targets);
+}

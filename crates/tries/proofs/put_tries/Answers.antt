@@ -1,34 +1,34 @@
-use Rattle.mapping.proofs.Sites.{as_dir, place_asks}
-use Rattle.tries.proofs.Tries.{inside, dotted, read_asks, read_few, unread, read_all}
-use native.Mathlib.Omega.{arith}
+use Rattle.std.proofs.Common.{arith}
+use Rattle.mapping.proofs.Sites.{place_asks, aliases_few, base_unnamed, base_named, lists_empty}
+use Rattle.tries.proofs.Tries.{inside, dotted, unread, read_too}
 use Rattle.tries.proofs.put_tries.Goals as goal
 
 pub returns-then-inside_node_modules : goal.returns-then-inside_node_modules
-returns-then-inside_node_modules c = inside c.args.commands.now c.args.text.now c.args.begins.now c.args.row.now c.args.base.now c.args.directory.now c.args.spec.now c.args.at c.requires _ c.inside_node_modules.ensures c.if-inside_node_modules.true _
-
-pub site_dir-dir-requires : goal.site_dir-dir-requires
-site_dir-dir-requires c = (c.requires.0.0.0, c.requires.0.0.1.0)
-
-pub put_from_roots-requires : goal.put_from_roots-requires
-put_from_roots-requires c = ((c.requires.0.0.0, (c.requires.0.0.1.0, as_dir c.args.commands.now c.args.text.now c.args.begins.now c.args.row.now c.requires.0.0.0 c.requires.0.0.1.0 _ c.site_dir-dir.ensures)), (c.requires.1, c.requires.0.1.1))
+returns-then-inside_node_modules c = lists_empty _ _ (inside _ _ _ _ c.inside_node_modules.ensures c.if-inside_node_modules.true)
 
 pub returns-then-starts_dot : goal.returns-then-starts_dot
-returns-then-starts_dot c = dotted c.args.commands.now c.args.text.now c.args.begins.now c.args.row.now c.args.base.now c.args.directory.now c.args.spec.now c.args.at c.requires _ c.inside_node_modules.ensures c.if-inside_node_modules.false _ c.starts_dot.ensures c.if-starts_dot.true _ _ _ c.put_from_roots.ensures
+returns-then-starts_dot c =
+    rw (← dotted _ _ _ _ c.inside_node_modules.ensures c.if-inside_node_modules.false _ c.starts_dot.ensures c.if-starts_dot.true) c.put_from_roots.ensures
 
-pub put_aliases-mapped-requires : goal.put_aliases-mapped-requires
-put_aliases-mapped-requires c = (c.requires.0, as_dir c.args.commands.now c.args.text.now c.args.begins.now c.args.row.now c.requires.0.0.0 c.requires.0.0.1.0 _ c.site_dir-dir.ensures)
+pub supplier-requires-clause-there : goal.supplier-requires-clause-there
+supplier-requires-clause-there c = place_asks c.args.book.now c.args.row.now c.requires.asks.sound 3 (omega arith)
 
-pub begin_at-requires : goal.begin_at-requires
-begin_at-requires c = place_asks c.args.commands.now c.args.text.now c.args.begins.now c.args.row.now c.args.base.now c.args.spec.now c.args.at c.requires.0 3 (omega arith)
+pub put_read-requires-clause-near : goal.put_read-requires-clause-near
+put_read-requires-clause-near c =
+    let few = aliases_few _ _ _ _ _ c.requires.asks _ c.starts_dot.ensures c.if-starts_dot.false in
+    omega (arith, c.put_aliases-mapped.ensures.puts.wrote.next, few.size, c.requires.asks.near)
 
-pub returns-in_default : goal.returns-in_default
-returns-in_default c = unread c.args.commands.now c.args.text.now c.args.begins.now c.args.row.now c.args.base.now c.args.directory.now c.args.spec.now c.args.at c.requires _ c.inside_node_modules.ensures c.if-inside_node_modules.false _ c.starts_dot.ensures c.if-starts_dot.false _ _ _ c.put_aliases-mapped.ensures _ c.begin_at.ensures c.in_default.is
+pub overflow_add-result : goal.overflow_add-result
+overflow_add-result c =
+    let few = aliases_few _ _ _ _ _ c.requires.asks _ c.starts_dot.ensures c.if-starts_dot.false in
+    omega (arith, c.put_aliases-mapped.ensures.counts, few.count)
 
-pub put_read-end-requires : goal.put_read-end-requires
-put_read-end-requires c = read_asks c.args.commands.now c.args.text.now c.args.begins.now c.args.row.now c.args.base.now c.args.directory.now c.args.spec.now c.args.at c.requires _ c.inside_node_modules.ensures c.if-inside_node_modules.false _ c.starts_dot.ensures c.if-starts_dot.false _ _ _ c.put_aliases-mapped.ensures
+pub returns-in-Some : goal.returns-in-Some
+returns-in-Some c =
+    read_too _ _ _ _ c.inside_node_modules.ensures c.if-inside_node_modules.false _ c.starts_dot.ensures c.if-starts_dot.false _ _ _ c.put_aliases-mapped.ensures _
+    (base_named _ _ _ _ _ c.requires.asks _ c.in-Some.ensures.at) _ c.put_read.ensures
 
-pub overflow_add-all : goal.overflow_add-all
-overflow_add-all c = let a = read_few c.args.commands.now c.args.text.now c.args.begins.now c.args.row.now c.args.base.now c.args.directory.now c.args.spec.now c.args.at c.requires _ c.inside_node_modules.ensures c.if-inside_node_modules.false _ c.starts_dot.ensures c.if-starts_dot.false _ _ _ c.put_aliases-mapped.ensures in omega (arith, a)
-
-pub returns : goal.returns
-returns c = read_all c.args.commands.now c.args.text.now c.args.begins.now c.args.row.now c.args.base.now c.args.directory.now c.args.spec.now c.args.at c.requires _ c.inside_node_modules.ensures c.if-inside_node_modules.false _ c.starts_dot.ensures c.if-starts_dot.false _ _ _ c.put_aliases-mapped.ensures _ c.begin_at.ensures c.in-At.is _ _ c.put_read-end.ensures
+pub returns-in-None : goal.returns-in-None
+returns-in-None c =
+    unread _ _ _ _ c.inside_node_modules.ensures c.if-inside_node_modules.false _ c.starts_dot.ensures c.if-starts_dot.false _ _ _ c.put_aliases-mapped.ensures
+    (base_unnamed _ _ _ _ _ c.requires.asks c.in-None.ensures.at)

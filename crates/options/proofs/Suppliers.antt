@@ -1,0 +1,163 @@
+-- What a row's config says of a field, read at the record that supplies it. Assumes nothing.
+use Rattle.std.proofs.Common.{length, ◌≡◌, ℕ, suc, ◌+◌, ◌-◌, ◌<◌, ◌≤◌, List, [], ◌++◌, Bool, true, false, get_or, Option, Some, None, Bor, refl, sym, ap, ◌∙◌, arith, add-one}
+use Rattle.std.specs.Prelude.{option_map, option_copied, IfSome}
+use mathlib.Core.List.{append_assoc}
+use Rattle.text.specs.Bytes.{Text, bytes}
+use Rattle.ends.specs.Ends.{parent_of}
+use Rattle.book.specs.Record.{option_of, flag_of}
+use Rattle.record.specs.Good.{read}
+use Rattle.record.specs.declared.place.Record.{Record}
+use Rattle.tsconfig.specs.Config.{Field, flag, text}
+use Rattle.tsconfig.specs.Parsed.{said, placed_value}
+use Rattle.tsconfig.specs.Build.{Settings, built_value}
+use Rattle.tsconfig.specs.Listing.{row, decimal, if_named, flag_row, text_row, flags, texts}
+use Rattle.rows.specs.Rows.{absent, slot, number_of, site_of, Row, begin_at}
+use Rattle.rows.specs.Records.{dir_of}
+use Rattle.rows.specs.Checked.{records_in}
+use Rattle.rows.specs.declared.CheckedBook.{CheckedBook}
+use Rattle.rows.proofs.Fields.{place_there, slot_of_flag, slot_of_text, plain, site_path, site_none, site_at_lem, site_plain}
+use Rattle.options.specs.Options.{flag_at, text_at}
+
+-- x is the record that stands at the place of the row, if there is one
+pub record Supplied (b : CheckedBook) (row : List ℕ) (k : ℕ) (x : Option Record) : Type 0 where
+  pub at : option_map (λ (r : Record). r.at) x ≡ begin_at b.begins.now row k
+  pub commands : IfSome x (λ r. r.commands.now ≡ b.commands.now)
+  pub text : IfSome x (λ r. r.text.now ≡ b.paths.text.now)
+
+pub supplied :
+    (b : CheckedBook) (row : List ℕ) (k : ℕ) (x : Option Record) → option_map (λ (r : Record). r.at) x ≡ begin_at b.begins.now row k →
+    IfSome x (λ r. r.commands.now ≡ b.commands.now) → IfSome x (λ r. r.text.now ≡ b.paths.text.now) → Supplied b row k x
+supplied b row k x e c t = record { at = e; commands = c; text = t }
+
+-- the config of a row
+abbrev pub config_in : CheckedBook → List ℕ → Settings
+config_in b row = (site_of (records_in b) row).config
+
+-- what stands at a place of the row is a record of the book
+pub in_book : (b : CheckedBook) (row : List ℕ) → Row (records_in b) row → (k : ℕ) → k < 28 → (get_or row k absent ≡ absent → ⊥) → get_or row k absent < length (records_in b)
+in_book b row w k l = place_there b.commands.now b.paths.text.now b.begins.now b.records row w k l
+
+built_flag : (dir base : Text) (id : ℕ) (o : Option Bool) → option_map (built_value dir base (flag id)) o ≡ o
+unfolding built_value
+built_flag dir base id None = refl
+built_flag dir base id (Some v) = refl
+
+built_text : (dir base : Text) (id : ℕ) (o : Option Text) → option_map (built_value dir base (text id)) o ≡ o
+unfolding built_value
+built_text dir base id None = refl
+built_text dir base id (Some v) = refl
+
+-- A field of the config, built at the directory and over the base, is what its supplier says
+
+module _ (b : CheckedBook) (row : List ℕ) (w : Row (records_in b) row) where
+  module _ (dir : Text) (d : dir ≡ parent_of (site_of (records_in b) row).path) (base : Text) (bs : base ≡ (config_in b row).base) (f : Field) where
+    here : dir ≡ dir_of b.paths.text.now (read b.commands.now (get_or b.begins.now (number_of row) 0))
+    here = d ∙ ap parent_of (site_path b.commands.now b.paths.text.now b.begins.now b.records row w)
+
+    pub none_at : Supplied b row (slot f) None → (config_in b row).named f ≡ None
+    none_at s = site_none b.commands.now b.paths.text.now b.begins.now b.records row w dir here base bs f s.at
+
+    pub some_at :
+        (r : Record) → Supplied b row (slot f) (Some r) →
+        (config_in b row).named f ≡ option_map (built_value dir base f) (option_map (placed_value (dir_of r.text.now (read r.commands.now r.at)) f) (said r.text.now (read r.commands.now r.at) f))
+    some_at r s =
+        let ce : r.commands.now ≡ b.commands.now = s.commands in
+        let te : r.text.now ≡ b.paths.text.now = s.text in
+        rw (ce, te) (site_at_lem b.commands.now b.paths.text.now b.begins.now b.records row w dir here base bs f r.at s.at)
+
+    pub plain_at : plain f ≡ true → (r : Record) → Supplied b row (slot f) (Some r) → (config_in b row).named f ≡ option_map (built_value dir base f) (said r.text.now (read r.commands.now r.at) f)
+    plain_at p r s =
+        let ce : r.commands.now ≡ b.commands.now = s.commands in
+        let te : r.text.now ≡ b.paths.text.now = s.text in
+        rw (ce, te) (site_plain b.commands.now b.paths.text.now b.begins.now b.records row w dir here base bs f p r.at s.at)
+
+  abbrev dir : Text
+  dir = parent_of (site_of (records_in b) row).path
+
+  module _ (id : ℕ) (l : id < 11) where
+    at_flag : (x : Option Record) → Supplied b row (8 + id) x → Supplied b row (slot (flag id)) x
+    at_flag x s = rw (slot_of_flag id l) s
+
+    pub flag_named : (x : Option Record) → Supplied b row (8 + id) x → if_named (flag_row id) ((config_in b row).named (flag id)) ≡ flag_at id x
+    unfolding if_named flag_at plain said
+    flag_named None s = ap (if_named (flag_row id)) (none_at dir refl (config_in b row).base refl (flag id) (at_flag None s))
+    flag_named (Some r) s =
+        ap (if_named (flag_row id))
+        (plain_at dir refl (config_in b row).base refl (flag id) refl r (at_flag (Some r) s) ∙ built_flag dir (config_in b row).base id (flag_of id (read r.commands.now r.at)))
+
+  module _ (id : ℕ) (l : id < 7) where
+    at_text : (x : Option Record) → Supplied b row (19 + id) x → Supplied b row (slot (text id)) x
+    at_text x s = rw (slot_of_text id l) s
+
+    pub text_named : (x : Option Record) → Supplied b row (19 + id) x → if_named (text_row id) ((config_in b row).named (text id)) ≡ text_at id x
+    unfolding if_named text_at plain said
+    text_named None s = ap (if_named (text_row id)) (none_at dir refl (config_in b row).base refl (text id) (at_text None s))
+    text_named (Some r) s =
+        ap (if_named (text_row id))
+        (plain_at dir refl (config_in b row).base refl (text id) refl r (at_text (Some r) s) ∙ built_text dir (config_in b row).base id (option_of r.text.now id (read r.commands.now r.at)))
+
+-- Where an option has no supplier, and where it has one
+
+module _ (id : ℕ) (found : Option Record) where
+  pub flag_none : found ≡ None → flag_at id found ≡ []
+  unfolding flag_at
+  flag_none e = rw e refl
+
+  pub text_none : found ≡ None → text_at id found ≡ []
+  unfolding text_at
+  text_none e = rw e refl
+
+  module _ {r : Record} (e : found ≡ Some r) where
+    module _ {o : Option Bool} (v : o ≡ flag_of id (read r.commands.now r.at)) where
+      pub flag_unset : o ≡ None → flag_at id found ≡ []
+      unfolding flag_at if_named
+      flag_unset n = rw (e, sym v ∙ n) refl
+
+      pub flag_set : {y : Bool} → o ≡ Some y → flag_row id y ≡ flag_at id found
+      unfolding flag_at if_named
+      flag_set g = rw (e, sym v ∙ g) refl
+
+    module _ {o : Option (Bor Text)} (v : option_copied o ≡ option_of r.text.now id (read r.commands.now r.at)) where
+      pub text_unset : o ≡ None → text_at id found ≡ []
+      unfolding text_at if_named
+      text_unset n = rw (e, sym v ∙ ap option_copied n) refl
+
+      pub text_set : {y : Bor Text} → o ≡ Some y → row (bytes "text " ++ decimal id) y.now ≡ text_at id found
+      unfolding text_at if_named text_row
+      text_set g = rw (e, sym v ∙ ap option_copied g) refl
+
+pub flag_true : (id : ℕ) {y : Bool} → y ≡ true → row (bytes "flag " ++ decimal id) (bytes "1") ≡ flag_row id y
+unfolding flag_row
+flag_true id e = rw e refl
+
+pub flag_false : (id : ℕ) {y : Bool} → y ≡ false → row (bytes "flag " ++ decimal id) (bytes "0") ≡ flag_row id y
+unfolding flag_row
+flag_false id e = rw e refl
+
+-- The loops over the ids
+
+module _ (c : Settings) (id : ℕ) where
+  pub flags_end : 11 ≤ id → flags c id (11 - id) ≡ []
+  unfolding flags
+  flags_end h = let z : 11 - id ≡ 0 = omega (arith, h) in rw z refl
+
+  pub texts_end : 7 ≤ id → texts c id (7 - id) ≡ []
+  unfolding texts
+  texts_end h = let z : 7 - id ≡ 0 = omega (arith, h) in rw z refl
+
+  flags_on : id < 11 → flags c id (11 - id) ≡ if_named (flag_row id) (c.named (flag id)) ++ flags c (id + 1) (11 - (id + 1))
+  unfolding flags
+  flags_on h = let z : 11 - id ≡ suc (11 - (id + 1)) = omega (arith, h) in rw (z, add-one) refl
+
+  texts_on : id < 7 → texts c id (7 - id) ≡ if_named (text_row id) (c.named (text id)) ++ texts c (id + 1) (7 - (id + 1))
+  unfolding texts
+  texts_on h = let z : 7 - id ≡ suc (7 - (id + 1)) = omega (arith, h) in rw (z, add-one) refl
+
+module _ (b : CheckedBook) (row : List ℕ) (w : Row (records_in b) row) (id : ℕ) (x : Option Record) where
+  pub flags_turn : (l : id < 11) → Supplied b row (8 + id) x → (y : Text) → flags (config_in b row) id (11 - id) ++ y ≡ flag_at id x ++ (flags (config_in b row) (id + 1) (11 - (id + 1)) ++ y)
+  flags_turn l s y =
+      let more = flags (config_in b row) (id + 1) (11 - (id + 1)) in
+      ap (λ (t : Text). t ++ y) (flags_on (config_in b row) id l ∙ ap (λ (t : Text). t ++ more) (flag_named b row w id l x s)) ∙ append_assoc (flag_at id x) more y
+
+  pub texts_turn : (l : id < 7) → Supplied b row (19 + id) x → texts (config_in b row) id (7 - id) ≡ text_at id x ++ texts (config_in b row) (id + 1) (7 - (id + 1))
+  texts_turn l s = texts_on (config_in b row) id l ∙ ap (λ (t : Text). t ++ texts (config_in b row) (id + 1) (7 - (id + 1))) (text_named b row w id l x s)
