@@ -6,16 +6,15 @@ use lib.ListN.{length, take, drop, length-drop}
 use lib.Seq.{length-take-le}
 use Rattle.text.specs.Bytes.{Text}
 use Rattle.text.specs.Text.{find}
-use Rattle.text.specs.declared.Found.{Found}
-use Rattle.text.specs.declared.Found.TheVariants.{At}
+use Rattle.std.specs.Prelude.{Option, Some}
 use Rattle.text.proofs.Scans.{find_within}
 
 -- a byte found in a text stands in it
-pub end_within : (b : ℕ) (s : Text) (f : Found) (i : ℕ) → f ≡ find b s → f ≡ At i → i < length s
+pub end_within : (b : ℕ) (s : Text) (f : Option ℕ) (i : ℕ) → f ≡ find b s → f ≡ Some i → i < length s
 end_within b s f i e h = find_within b s i (sym h ∙ e)
 
 -- a byte found in what follows a place stands in the whole
-pub end_after : (b : ℕ) (s r : Text) (at : ℕ) (f : Found) (i : ℕ) → r ≡ drop at s → f ≡ find b r → f ≡ At i → at + i < length s
+pub end_after : (b : ℕ) (s r : Text) (at : ℕ) (f : Option ℕ) (i : ℕ) → r ≡ drop at s → f ≡ find b r → f ≡ Some i → at + i < length s
 end_after b s r at f i d e h =
     let w : i < length r = end_within b r f i e h in
     let l : length (drop at s) ≡ length s - at = length-drop at s in
@@ -23,7 +22,7 @@ end_after b s r at f i d e h =
     omega arith
 
 -- what follows a byte found ends with the whole
-pub rest_within : (b : ℕ) (s r : Text) (f : Found) (i n : ℕ) → f ≡ find b s → f ≡ At i → r ≡ drop (i + 1) s → n ≤ length r → i + 1 + n ≤ length s
+pub rest_within : (b : ℕ) (s r : Text) (f : Option ℕ) (i n : ℕ) → f ≡ find b s → f ≡ Some i → r ≡ drop (i + 1) s → n ≤ length r → i + 1 + n ≤ length s
 rest_within b s r f i n e h d le =
     let w : i < length s = end_within b s f i e h in
     let l : length (drop (i + 1) s) ≡ length s - (i + 1) = length-drop (i + 1) s in

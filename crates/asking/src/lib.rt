@@ -2,22 +2,65 @@
 // answers to standard output.
 #![tactic(auto)]
 
-ghost use Rattle.std.specs.Prelude.{◌+◌, ◌<◌, ◌≤◌, length};
-ghost use Rattle.asking.specs.Loaded.{Within};
+ghost use Rattle.std.specs.Prelude.{◌+◌, ◌<◌, ◌≤◌, length, IfSome};
+ghost use Rattle.asking.specs.Questions.{Answers};
 
 use asked::{Kind, fields, first_field, kind_of, other_fields};
+use lists::word_at;
 use questions::{tsconfig_build, tsconfig_candidates, tsconfig_owner, tsconfig_tries};
 use replies::Numbers;
 use std::io::Read;
 use std::rt::Files;
 use streams::{fail, read_file};
 pub use streams::{say, say_number};
-use text::{Found, find_byte, from, upto};
+use text::{find_byte, from, upto};
 
-const LINE_END: u8 = 0x0A;
+const LINE_END: u8 = b'\n';
 
 // What owner answers for both configs where there is none.
 const NONE: u64 = 65535;
+
+// A question, with what it asks about.
+#[derive(Clone, Copy)]
+pub enum Question<'a> {
+    // The path of a config.
+    Build(&'a [u8]),
+    // The path of a file.
+    Owner(&'a [u8]),
+    // The path of a config, and a specifier.
+    Candidates(&'a [u8], &'a [u8]),
+    // The path of a config, a directory, and a specifier.
+    Tries(&'a [u8], &'a [u8], &'a [u8]),
+}
+
+// The question that a line asks.
+pub fn question_of(line: &[u8]) -> Option<Question> {
+    let asked = fields(line);
+    let rest = other_fields(asked);
+    let question = match kind_of(line)? {
+        Kind::Build => Question::Build(asked),
+        Kind::Owner => Question::Owner(asked),
+        Kind::Candidates => Question::Candidates(first_field(asked), rest),
+        Kind::Tries => Question::Tries(first_field(asked), first_field(rest), other_fields(rest)),
+    };
+    Some(question)
+}
+
+// Asks a question about a book. What has an output writes it to the one that is lent.
+pub fn ask(question: Question, commands: &[u8], text: &[u8], out: &mut [u8]) -> Numbers
+    ensures { Answers question.entry commands.now text.now result out.old out.new }
+{
+    match question {
+        Question::Build(path) => tsconfig_build(commands, text, path, out),
+        Question::Owner(path) => tsconfig_owner(commands, text, path),
+        Question::Candidates(path, specifier) => {
+            tsconfig_candidates(commands, text, path, specifier, out)
+        }
+        Question::Tries(path, directory, specifier) => {
+            tsconfig_tries(commands, text, path, directory, specifier, out)
+        }
+    }
+}
 
 // Writes a line.
 fn say_line(rt: &(impl Print + Eprint), s: &[u8]) {
@@ -33,151 +76,47 @@ fn say_two(rt: &(impl Print + Eprint), name: &[u8], a: u64, b: u64) {
     say(rt, b"\n");
 }
 
-// Writes a refusal.
-fn say_refused(rt: &(impl Print + Eprint), r: Numbers) {
-    say_two(rt, b"refused", r.number, r.place);
-}
-
-fn wide(x: u8) -> usize
-    ensures { result < 256 }
-{
-    x as usize
-}
-
-// The byte at `at`, 0 where s is shorter.
-fn byte_at(s: &[u8], at: usize) -> usize
-    ensures { result < 256 }
-{
-    if at < s.len() {
-        return wide(s[at]);
-    }
-    0
-}
-
-// The first two bytes, low first.
-fn word(s: &[u8]) -> usize
-    ensures { result < 65536 }
-{
-    byte_at(s, 0) + byte_at(s, 1) * 256
-}
-
-// Writes the paths of a list, one a line. Each is a length of two bytes, low first, and its bytes.
-fn say_paths(rt: &(impl Print + Eprint), list: &[u8]) {
-    let mut at = 0;
-    while at < list.len() {
-        let entry = from(list, at);
-        let size = word(entry);
-        say_line(rt, upto(from(entry, 2), size));
-        if list.len() - at <= size + 2 {
-            return;
-        }
-        at = at + size + 2;
-    }
-}
-
-// Writes a list of paths under a word and their number.
+// Writes the paths of a list, one a line, under a word and their number. Each is a length of two bytes, low first, and its bytes.
 fn say_list(rt: &(impl Print + Eprint), name: &[u8], count: u64, list: &[u8]) {
     say(rt, name);
     say_number(rt, count);
     say(rt, b"\n");
-    say_paths(rt, list);
+    let mut rest = list;
+    while !rest.is_empty() {
+        let size = word_at(rest, 0);
+        say_line(rt, upto(from(rest, 2), size));
+        rest = from(rest, size + 2);
+    }
 }
 
-fn answer_build(
-    rt: &(impl Print + Eprint),
-    commands: &[u8],
-    text: &[u8],
-    path: &[u8],
-    out: &mut [u8],
-) {
-    let r = tsconfig_build(commands, text, path, out);
-    if r.number != 0 {
-        say_refused(rt, r);
-        return;
-    }
-    say_two(rt, b"built", r.first, r.second);
-    say(rt, upto(out, r.bytes as usize));
-}
-
-fn answer_owner(rt: &(impl Print + Eprint), commands: &[u8], text: &[u8], path: &[u8]) {
-    let r = tsconfig_owner(commands, text, path);
-    if r.number != 0 {
-        say_refused(rt, r);
-        return;
-    }
-    if r.first == NONE {
-        say_line(rt, b"owner none");
-        return;
-    }
-    say_two(rt, b"owner", r.first, r.second);
-}
-
-fn answer_candidates(
-    rt: &(impl Print + Eprint),
-    commands: &[u8],
-    text: &[u8],
-    path: &[u8],
-    specifier: &[u8],
-    out: &mut [u8],
-) {
-    let r = tsconfig_candidates(commands, text, path, specifier, out);
-    if r.number != 0 {
-        say_refused(rt, r);
-        return;
-    }
-    say_list(rt, b"candidates", r.first, upto(out, r.bytes as usize));
-}
-
-fn answer_tries(
-    rt: &(impl Print + Eprint),
-    commands: &[u8],
-    text: &[u8],
-    path: &[u8],
-    directory: &[u8],
-    specifier: &[u8],
-    out: &mut [u8],
-) {
-    let r = tsconfig_tries(commands, text, path, directory, specifier, out);
-    if r.number != 0 {
-        say_refused(rt, r);
-        return;
-    }
-    say_list(rt, b"tries", r.first, upto(out, r.bytes as usize));
-}
-
+// Answers a line.
 fn answer(rt: &(impl Print + Eprint), commands: &[u8], text: &[u8], line: &[u8], out: &mut [u8]) {
-    let asked = fields(line);
-    match kind_of(line) {
-        Kind::Build => answer_build(rt, commands, text, asked, out),
-        Kind::Owner => answer_owner(rt, commands, text, asked),
-        Kind::Candidates => answer_candidates(
-            rt,
-            commands,
-            text,
-            first_field(asked),
-            other_fields(asked),
-            out,
-        ),
-        Kind::Tries => {
-            let rest = other_fields(asked);
-            answer_tries(
-                rt,
-                commands,
-                text,
-                first_field(asked),
-                first_field(rest),
-                other_fields(rest),
-                out,
-            );
-        }
-        Kind::Unknown => say_line(
+    let Some(question) = question_of(line) else {
+        say_line(
             rt,
             b"no question: B path, O path, C path, tab, specifier, or T path, tab, directory, tab, specifier",
-        ),
+        );
+        return;
+    };
+    let numbers = ask(question, commands, text, out);
+    if numbers.number != 0 {
+        say_two(rt, b"refused", numbers.number, numbers.place);
+        return;
+    }
+    let bytes = upto(out, numbers.bytes as usize);
+    match question {
+        Question::Build(_) => {
+            say_two(rt, b"built", numbers.first, numbers.second);
+            say(rt, bytes);
+        }
+        Question::Owner(_) if numbers.first == NONE => say_line(rt, b"owner none"),
+        Question::Owner(_) => say_two(rt, b"owner", numbers.first, numbers.second),
+        Question::Candidates(_, _) => say_list(rt, b"candidates", numbers.first, bytes),
+        Question::Tries(_, _, _) => say_list(rt, b"tries", numbers.first, bytes),
     }
 }
 
-// Answers each line of an input that has its end. Gives where what follows the last of them starts.
+// Answers each line of an input that has its end. Gives how many bytes follow the last of them.
 fn answer_lines(
     rt: &(impl Print + Eprint),
     commands: &[u8],
@@ -187,25 +126,22 @@ fn answer_lines(
 ) -> usize
     ensures { result ≤ length input.now }
 {
-    let mut at = 0;
-    loop {
-        let rest = from(input, at);
-        let Found::At(i) = find_byte(rest, LINE_END) else {
-            return at;
-        };
+    let mut rest = input;
+    while let Some(i) = find_byte(rest, LINE_END) {
         answer(rt, commands, text, upto(rest, i), out);
-        at = at + i + 1;
+        rest = from(rest, i + 1);
     }
+    rest.len()
 }
 
-// How far an input is answered, and whether the line that is open there is passed over.
+// How many bytes at the start of the buffer wait for their line's end, and whether that line is passed over.
 #[derive(Clone, Copy)]
-pub struct Done {
-    pub at: usize,
+pub struct Held {
+    pub count: usize,
     pub passing: bool,
 }
 
-// Answers the lines that have their end in an input, after the end of the line that is passed over, if one is.
+// Answers the lines that have their end in an input, after the end of the line that is passed over, if one is. Gives what waits at its end.
 fn answer_input(
     rt: &(impl Print + Eprint),
     commands: &[u8],
@@ -213,26 +149,21 @@ fn answer_input(
     input: &[u8],
     passing: bool,
     out: &mut [u8],
-) -> Done
-    ensures { result.at ≤ length input.now }
+) -> Held
+    ensures { result.count ≤ length input.now }
 {
-    if !passing {
-        let at = answer_lines(rt, commands, text, input, out);
-        return Done {
-            at: at,
-            passing: false,
-        };
-    }
-    let Found::At(i) = find_byte(input, LINE_END) else {
-        return Done {
-            at: input.len(),
-            passing: true,
-        };
+    let lines = match find_byte(input, LINE_END) {
+        _ if !passing => input,
+        Some(i) => from(input, i + 1),
+        None => {
+            return Held {
+                count: 0,
+                passing: true,
+            };
+        }
     };
-    let lines = from(input, i + 1);
-    let at = answer_lines(rt, commands, text, lines, out);
-    Done {
-        at: i + 1 + at,
+    Held {
+        count: answer_lines(rt, commands, text, lines, out),
         passing: false,
     }
 }
@@ -241,11 +172,10 @@ fn answer_input(
 fn move_down(buffer: &mut [u8], at: usize, end: usize)
     requires at_le_end { at ≤ end }
     requires end_in_bounds { end ≤ length buffer.old }
+    ensures { length buffer.new ≤ length buffer.old }
 {
-    let mut i = 0;
-    while i < end - at {
+    for i in 0..end - at {
         buffer[i] = buffer[at + i];
-        i += 1;
     }
 }
 
@@ -263,14 +193,6 @@ fn read_more(rt: &impl Eprint, input: &mut impl Read, buffer: &mut [u8], at: usi
     }
 }
 
-// How many bytes at the start of the buffer wait for their line's end, whether that line is passed over, and whether more may come.
-#[derive(Clone, Copy)]
-pub struct Held {
-    pub count: usize,
-    pub passing: bool,
-    pub open: bool,
-}
-
 // Answers the lines that have their end in the first `end` bytes of the buffer, and keeps what follows at its start. A line that fills the
 // buffer is too long, and is passed over.
 fn take_in(
@@ -285,26 +207,19 @@ fn take_in(
     requires { end ≤ length buffer.old }
     ensures { result.count ≤ length buffer.old }
 {
-    let done = answer_input(rt, commands, text, upto(buffer, end), passing, out);
-    let at = done.at;
-    let count = end - at;
-    if count == buffer.len() {
+    let held = answer_input(rt, commands, text, upto(buffer, end), passing, out);
+    if held.count == buffer.len() {
         say_line(rt, b"line too long: at most 4095 bytes");
         return Held {
             count: 0,
             passing: true,
-            open: true,
         };
     }
-    move_down(buffer, at, end);
-    Held {
-        count: count,
-        passing: done.passing,
-        open: true,
-    }
+    move_down(buffer, end - held.count, end);
+    held
 }
 
-// Reads once and answers what can be answered then. At the end of the input what waits is the last line.
+// Reads once and answers what can be answered then. At the end of the input what waits is the last line, and there is no turn more.
 fn turn(
     rt: &(impl Print + Eprint),
     input: &mut impl Read,
@@ -313,9 +228,9 @@ fn turn(
     buffer: &mut [u8],
     held: Held,
     out: &mut [u8],
-) -> Held
+) -> Option<Held>
     requires { held.count ≤ length buffer.old }
-    ensures { result.count ≤ length buffer.old }
+    ensures { IfSome result (λ h. h.count ≤ length buffer.old) }
 {
     let count = held.count;
     let got = read_more(rt, input, buffer, count);
@@ -323,13 +238,9 @@ fn turn(
         if 0 < count {
             answer(rt, commands, text, upto(buffer, count), out);
         }
-        return Held {
-            count: 0,
-            passing: false,
-            open: false,
-        };
+        return None;
     }
-    take_in(rt, commands, text, buffer, count + got, held.passing, out)
+    Some(take_in(rt, commands, text, buffer, count + got, held.passing, out))
 }
 
 // Answers the lines of standard input. They are read through the lent buffer. Nothing says that an input ends, so the turns are counted, up to
@@ -345,29 +256,28 @@ fn answer_all(
     let mut held = Held {
         count: 0,
         passing: false,
-        open: true,
     };
     for _ in 0..u64::MAX {
-        held = turn(rt, &mut input, commands, text, buffer, held, out);
-        if !held.open {
-            return;
+        match turn(rt, &mut input, commands, text, buffer, held, out) {
+            Some(next) => held = next,
+            None => return,
         }
     }
 }
 
 // Reads a file whole, as far as there is room. Says what is wrong where it cannot be read, or where its name is no text.
-pub fn load(rt: &(impl Files + Eprint), name: &[u8], room: &mut [u8]) -> Found
-    ensures { Within (length room.old) result }
+pub fn load(rt: &(impl Files + Eprint), name: &[u8], room: &mut [u8]) -> Option<usize>
+    ensures { IfSome result (λ n. n ≤ length room.old) }
 {
     let Ok(path) = std::str::from_utf8(name) else {
         let _ = eprintln!(rt; "the name of a file is no text");
-        return Found::Nothing;
+        return None;
     };
     match read_file(rt, path, room) {
-        Ok(n) => Found::At(n),
+        Ok(n) => Some(n),
         Err(error) => {
             fail(rt, path, error);
-            Found::Nothing
+            None
         }
     }
 }
@@ -384,10 +294,10 @@ fn answer_stdin(rt: &(impl Input + Print + Eprint), commands: &[u8], text: &[u8]
 pub fn run(rt: &(impl Files + Input + Print + Eprint)) {
     let mut commands = [0u8; 32769];
     let mut text = [0u8; 65536];
-    let Found::At(m) = load(rt, b"book.cmd", &mut commands) else {
+    let Some(m) = load(rt, b"book.cmd", &mut commands) else {
         return;
     };
-    let Found::At(n) = load(rt, b"book.txt", &mut text) else {
+    let Some(n) = load(rt, b"book.txt", &mut text) else {
         return;
     };
     answer_stdin(rt, upto(&commands, m), upto(&text, n));

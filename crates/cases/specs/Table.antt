@@ -1,7 +1,7 @@
 -- Document 01's fourteen proved cases and its worked example, as one table: what is asked, and what is answered, as texts.
 use Rattle.std.specs.Prelude.{ℕ, zero, suc, ◌+◌, ◌*◌, ◌/◌, ◌%◌, List, [], ◌∷◌, ◌++◌, map, Bool, cond, ltb, eqb, take, drop}
 use Prim.Native.String.{String}
-use Rattle.std.proofs.Math.Option.{Option, some, none}
+use Rattle.std.specs.Prelude.{Option, Some, None}
 use Rattle.text.specs.Bytes.{Text, bytes}
 use Rattle.join.specs.Join.{normalize_with}
 use Rattle.path.specs.Path.{under}
@@ -37,7 +37,7 @@ pub data Case : Type 0 where
   -- the lines that the program prints for the questions about a book
   prints : List Line → List Question → Case
 
--- What the program prints: "`built`: record, merges", and the lines below it; "`owner`: found, solution. Otherwise `owner none`";
+-- What the program prints: "`built`: record, merges", and the lines below it; "`owner`: found, solution. Otherwise `owner None`";
 -- `candidates` or `tries`, "the count and the paths"; "`refused`, number and place".
 
 -- a number in decimal, of at most k digits
@@ -60,7 +60,7 @@ listed (suc k) (x ∷ y ∷ s) = take (x + y * 256) s ++ (10 ∷ listed k (drop 
 
 abbrev pub printed : Question → Reply → Text
 printed (B p) r = two "built" r.first r.second ++ r.bytes
-printed (O p) r = cond (eqb r.first 65535) (bytes "owner none\n") (two "owner" r.first r.second)
+printed (O p) r = cond (eqb r.first 65535) (bytes "owner None\n") (two "owner" r.first r.second)
 printed (C p s) r = heading "candidates" r.first ++ (10 ∷ listed r.first r.bytes)
 printed (T p d s) r = heading "tries" r.first ++ (10 ∷ listed r.first r.bytes)
 
@@ -77,12 +77,12 @@ abbrev pub of_bool : Bool → List Text
 of_bool b = cond b (bytes "yes") (bytes "no") ∷ []
 
 abbrev pub of_option : Option Text → List Text
-of_option none = []
-of_option (some s) = s ∷ []
+of_option None = []
+of_option (Some s) = s ∷ []
 
 abbrev pub of_key : Text → Option Key → List Text
-of_key s none = []
-of_key s (some k) = k.key ∷ of_option (key_part k.key s)
+of_key s None = []
+of_key s (Some k) = k.key ∷ of_option (key_part k.key s)
 
 abbrev pub named : String → Key
 named k = record { key = bytes k; targets = [] }
@@ -95,7 +95,7 @@ abbrev pub answer : Case → List Text
 answer (path b s) = normalize_with (bytes b) (bytes s) ∷ []
 answer (built_in d s) = substituted (bytes d) (bytes s) ∷ []
 answer (lies p d) = of_bool (under (bytes p) (bytes d))
-answer (chosen ks s) = of_key (bytes s) (best_key (bytes s) none (map named ks))
+answer (chosen ks s) = of_key (bytes s) (best_key (bytes s) None (map named ks))
 answer (matching k s) = of_bool (is_match (key_part (bytes k) (bytes s)))
 answer (extension_of p) = of_option (extension (bytes p))
 answer (line_of ls) = of_line (book (commands_of ls) (text_of_lem ls))

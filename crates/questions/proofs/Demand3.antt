@@ -1,7 +1,7 @@
 -- Demand 3: nothing is assumed but that the load gave an answer. Assumes nothing.
 use mathlib.Core.Path.{◌≡◌, refl, sym, ap, ◌∙◌, subst}
 use mathlib.Core.List.{List}
-use mathlib.Core.Option.{Option, some, none}
+use Rattle.std.specs.Prelude.{Option, Some, None}
 use Prim.Native.Nat.{ℕ, ◌<◌}
 use native.Mathlib.Omega.{arith}
 use lib.ListN.{length}
@@ -61,16 +61,16 @@ inherits rs c p lt e =
     }
 
 -- the same of an asked path
-pub inherits_asked : (rs : List Parsed) (path : Text) (p : Project) → load_path rs path ≡ given p → (c : ℕ) × (locate (paths_of rs) path ≡ some c) × Inherits rs c p
+pub inherits_asked : (rs : List Parsed) (path : Text) (p : Project) → load_path rs path ≡ given p → (c : ℕ) × (locate (paths_of rs) path ≡ Some c) × Inherits rs c p
 unfolding load_path load_found
 inherits_asked rs path p e = go (locate (paths_of rs) path) refl e
   where
-    go : (o : Option ℕ) → locate (paths_of rs) path ≡ o → load_found rs o ≡ given p → (c : ℕ) × (locate (paths_of rs) path ≡ some c) × Inherits rs c p
-    go none h e = absurd (refused_given e)
-    go (some c) h e = (c, h, inherits rs c p (subst (λ o. Fits (length rs) (reached o)) h (locate_below rs path)) e)
+    go : (o : Option ℕ) → locate (paths_of rs) path ≡ o → load_found rs o ≡ given p → (c : ℕ) × (locate (paths_of rs) path ≡ Some c) × Inherits rs c p
+    go None h e = absurd (refused_given e)
+    go (Some c) h e = (c, h, inherits rs c p (subst (λ o. Fits (length rs) (reached o)) h (locate_below rs path)) e)
 
 -- Demand 3, from the lent bytes on: for every book that is accepted and every asked path, if the load gives an answer.
 pub demand_3 :
     (commands text path : Text) (rs : List Parsed) (p : Project) → book commands text ≡ given rs → load_path rs path ≡ given p →
-    (c : ℕ) × (locate (paths_of rs) path ≡ some c) × Inherits rs c p
+    (c : ℕ) × (locate (paths_of rs) path ≡ Some c) × Inherits rs c p
 demand_3 commands text path rs p accepted loaded = inherits_asked rs path p loaded

@@ -2,7 +2,7 @@
 use mathlib.Core.Path.{◌≡◌, refl, ap, ap₂, ◌∙◌}
 use mathlib.Core.List.{List, [], ◌∷◌}
 use mathlib.Core.Bool.{true, ◌&&◌}
-use mathlib.Core.Option.{some}
+use Rattle.std.specs.Prelude.{Some}
 use Prim.Native.Nat.{ℕ, ◌≤◌, ◌<◌}
 use native.Mathlib.Omega.{arith}
 use lib.ListN.{length, drop, length-append, length-drop}
@@ -19,12 +19,12 @@ unfolding same_text
 same_self [] = refl
 same_self (x ∷ a) = ap₂ ◌&&◌ (eq-eqb x x refl) (same_self a)
 
-left_self : (as' : List Text) → left_of as' as' ≡ some []
+left_self : (as' : List Text) → left_of as' as' ≡ Some []
 unfolding left_of
 left_self [] = refl
 left_self (a ∷ as') = rw (same_self a) (left_self as')
 
-left_nil : (as' : List Text) → left_of as' [] ≡ some as'
+left_nil : (as' : List Text) → left_of as' [] ≡ Some as'
 unfolding left_of
 left_nil [] = refl
 left_nil (a ∷ as') = refl

@@ -1,7 +1,7 @@
 -- Every refusal of every question has a number from 1 to 13. Assumes nothing.
 use mathlib.Core.List.{List, [], ◌∷◌, reverse, map}
 use mathlib.Core.Bool.{Bool, true, false, cond, ◌||◌}
-use mathlib.Core.Option.{Option, some, none}
+use Rattle.std.specs.Prelude.{Option, Some, None}
 use Prim.Native.Nat.{ℕ, zero, suc}
 use native.Mathlib.Omega.{arith}
 use lib.ListN.{length}
@@ -32,8 +32,8 @@ module _ {A B : Type 0} where
 
 module _ {A S : Type 0} where
   unless_numbered : (o : Option ℕ) (p : ℕ) (k : S → Answer A) (s : S) → NumberedIf o → Numbered (k s) → Numbered (unless o p k s)
-  unless_numbered none p k s h g = g
-  unless_numbered (some n) p k s h g = h
+  unless_numbered None p k s h g = g
+  unless_numbered (Some n) p k s h g = h
 
 cond_numbered : {A : Type 0} (b : Bool) (x y : Answer A) → Numbered x → Numbered y → Numbered (cond b x y)
 cond_numbered true x y h g = h
@@ -48,10 +48,10 @@ cond_if false x y h g = g
 fault_numbered : (text : Text) (count : ℕ → ℕ) (last n : ℕ) (keys paths : List Text) (c : Cmd) → NumberedIf (fault_of text count last n keys paths c)
 unfolding fault_of
 fault_numbered text count last n keys paths c =
-    cond_if (in_order count last c) _ (some 3)
-    (cond_if (good_string text c) _ (some 4)
-    (cond_if (too_many count last c n) (some 5) _ (omega arith, omega arith)
-    (cond_if (given_before keys paths c.op (text_of text c)) (some 6) none (omega arith, omega arith) tt))
+    cond_if (in_order count last c) _ (Some 3)
+    (cond_if (good_string text c) _ (Some 4)
+    (cond_if (too_many count last c n) (Some 5) _ (omega arith, omega arith)
+    (cond_if (given_before keys paths c.op (text_of text c)) (Some 6) None (omega arith, omega arith) tt))
     (omega arith, omega arith))
     (omega arith, omega arith)
 
@@ -85,8 +85,8 @@ module _ {Val : Field → Type 0} {B : Type 0} where
   OneNumbered one = (p : ℕ) (s : State Val B) → Numbered (one p s)
 
   recall_numbered : (o : Option (Config Val B)) (k : State Val B → Answer (Loaded Val B)) (s : State Val B) → Numbered (k s) → Numbered (recall o k s)
-  recall_numbered (some x) k s h = tt
-  recall_numbered none k s h = h
+  recall_numbered (Some x) k s h = tt
+  recall_numbered None k s h = h
 
   module _ (one : ℕ → State Val B → Answer (Loaded Val B)) (h : OneNumbered one) (c : ℕ) where
     parent_numbered : (e : Entry) (s : State Val B) → Numbered (parent one c e s)
@@ -106,7 +106,7 @@ module _ {Val : Field → Type 0} {B : Type 0} (b : Configs Val B) where
   by_numbered zero chain c s = (omega arith, omega arith)
   by_numbered (suc k) chain c s =
       unless_numbered (refusal b chain c) c (fresh b (load_by b k (add c chain)) c) s
-      (cond_if (chain c) (some 9) (unread (b.entries c)) (omega arith, omega arith) (unread_numbered (b.entries c)))
+      (cond_if (chain c) (Some 9) (unread (b.entries c)) (omega arith, omega arith) (unread_numbered (b.entries c)))
       (bind (walk (load_by b k (add c chain)) c (reverse (b.entries c)) (b.own c) s) _
       (walk_numbered (load_by b k (add c chain)) (by_numbered k (add c chain)) c (reverse (b.entries c)) (b.own c) s) (λ r. tt))
 
@@ -116,16 +116,16 @@ module _ {Val : Field → Type 0} {B : Type 0} (b : Configs Val B) where
 
   refer_numbered : (c r : ℕ) (s : State Val B) → Numbered (refer b c r s)
   refer_numbered c r s =
-      unless_numbered (cond (eqb r c) (some 10) none) c _ s
-      (cond_if (eqb r c) (some 10) none (omega arith, omega arith) tt)
+      unless_numbered (cond (eqb r c) (Some 10) None) c _ s
+      (cond_if (eqb r c) (Some 10) None (omega arith, omega arith) tt)
       (unless_numbered (unread (b.entries r)) r _ s (unread_numbered (b.entries r))
       (walk_numbered (load b (λ i. false)) (load_numbered (λ i. false)) r (reverse (b.entries r)) (b.own r) s))
 
 module _ (rs : List Parsed) where
   to_numbered : (c : ℕ) (o : Option ℕ) (s : Store) → Numbered (refer_to rs c o s)
   unfolding refer_to
-  to_numbered c none s = (omega arith, omega arith)
-  to_numbered c (some r) s = bind (refer (seen rs) c r s) _ (refer_numbered (seen rs) c r s) (λ x. tt)
+  to_numbered c None s = (omega arith, omega arith)
+  to_numbered c (Some r) s = bind (refer (seen rs) c r s) _ (refer_numbered (seen rs) c r s) (λ x. tt)
 
   references_numbered : (c : ℕ) (ts : List Text) (s : Store) → Numbered (references_of rs c ts s)
   unfolding references_of
@@ -142,8 +142,8 @@ module _ (rs : List Parsed) where
 
   found_numbered : (o : Option ℕ) → Numbered (load_found rs o)
   unfolding load_found
-  found_numbered none = (omega arith, omega arith)
-  found_numbered (some c) = record_numbered c
+  found_numbered None = (omega arith, omega arith)
+  found_numbered (Some c) = record_numbered c
 
   path_numbered : (p : Text) → Numbered (load_path rs p)
   unfolding load_path
@@ -151,10 +151,10 @@ module _ (rs : List Parsed) where
 
   at_numbered : (path : Text) (o : Option ℕ) (above : Answer (Option Owner)) → Numbered above → Numbered (owner_at rs path o above)
   unfolding owner_at owned
-  at_numbered path none above h = h
-  at_numbered path (some c) above h =
+  at_numbered path None above h = h
+  at_numbered path (Some c) above h =
       bind (load_record rs c) (λ p. owned path p above) (record_numbered c)
-      (λ p. cond_numbered (claims_ownership path p.site p.references) (given (some _)) above tt h)
+      (λ p. cond_numbered (claims_ownership path p.site p.references) (given (Some _)) above tt h)
 
   from_numbered : (path : Text) (ds : List Text) → Numbered (owner_from rs path ds)
   unfolding owner_from
@@ -163,7 +163,7 @@ module _ (rs : List Parsed) where
 
   of_numbered : (path : Text) → Numbered (owner_of rs path)
   unfolding owner_of
-  of_numbered path = cond_numbered (inside_node_modules path) (given none) _ tt (from_numbered path _)
+  of_numbered path = cond_numbered (inside_node_modules path) (given None) _ tt (from_numbered path _)
 
 -- The questions
 
@@ -177,8 +177,8 @@ fit_numbered room r = cond_numbered (ltb room (length r.bytes)) (refused 13 (len
 
 reply_numbered : (o : Option Owner) → Numbered (owner_reply o)
 unfolding owner_reply
-reply_numbered none = tt
-reply_numbered (some o) = tt
+reply_numbered None = tt
+reply_numbered (Some o) = tt
 
 pub build_numbered : (commands text path : Text) (room : ℕ) → Numbered (tsconfig_build commands text path room)
 unfolding tsconfig_build build

@@ -2,7 +2,7 @@
 use mathlib.Core.Path.{◌≡◌, refl, sym, ap, subst, ◌∙◌}
 use mathlib.Core.List.{List, [], ◌∷◌, ◌++◌, map, reverse, append_assoc}
 use mathlib.Core.Bool.{Bool, true, false, ◌||◌}
-use mathlib.Core.Option.{Option, some, none}
+use Rattle.std.specs.Prelude.{Option, Some, None}
 use Prim.Native.Nat.{ℕ, zero, suc, ◌+◌, ◌-◌, ◌%◌, ◌/◌, ◌<◌, ◌≤◌}
 use native.Mathlib.Omega.{arith}
 use lib.ListN.{length, take, drop, length-append, length-map, length-reverse}
@@ -36,7 +36,7 @@ use Rattle.replies.specs.Replies.{Outcome, Reply, fit, listed, returned, output,
 use Rattle.build_reply.specs.Reply.{build_reply}
 use Rattle.paths_reply.specs.Paths.{paths_by}
 use Rattle.questions.specs.Questions.{asked, book, build, owner, owner_reply, tsconfig_build, tsconfig_owner, tsconfig_candidates, tsconfig_tries}
-use Rattle.questions.specs.Replies.{build_of, paths_from, asked_for, ask_paths, tsconfig_paths}
+use Rattle.questions.specs.Replies.{asked_for, tsconfig_paths}
 use Rattle.questions.specs.Numbered.{Numbered}
 use Rattle.questions.specs.Demand3.{flat_site, Inherits}
 use Rattle.questions.specs.Promises.{Loads, flat_listing, flat_after, BuildInherits, PathsInherit, CandidatesInherit, TriesInherit, OneStory, OwnerInherits, Passed}
@@ -44,9 +44,9 @@ use Rattle.replies.specs.declared.Numbers.{Numbers}
 use Rattle.questions.proofs.Demand3.{refused_given, given_same, then_given, inherits}
 use Rattle.questions.proofs.Numbered.{build_numbered, owner_numbered, candidates_numbered, tries_numbered}
 use Rattle.replies.proofs.Replies.{listed_reply}
-use Rattle.questions.proofs.Replies.{candidates_paths, tries_paths}
+use Rattle.questions.proofs.Replies.{paths_asked}
 
-none_some : {A : Type 0} (o : A) → none ≡ some o → ⊥
+none_some : {A : Type 0} (o : A) → None ≡ Some o → ⊥
 none_some o x = let z : ◌≡◌ {A = ℕ} 0 1 = cc in omega (arith, z)
 
 either : {X : Type 1} (b : Bool) → (b ≡ true → X) → (b ≡ false → X) → X
@@ -94,7 +94,7 @@ book_records commands text rs e =
     let (cs, v, g) = then_given (verdict commands text) _ e in
     rw v (sym (given_same g))
 
-same_some : {A : Type 0} {a b : A} → some a ≡ some b → a ≡ b
+same_some : {A : Type 0} {a b : A} → Some a ≡ Some b → a ≡ b
 same_some e = cc
 
 laid_append : (ts us : List Text) → laid (ts ++ us) ≡ laid ts ++ laid us
@@ -121,13 +121,13 @@ module _ (commands text : Text) where
       (p : Project) × (load_path rs path ≡ given p) × (after p ≡ given a)
   reached_by path ok after a e = then_given (load_path rs path) after (asked_given ok (load_path rs path >>= after) a e)
 
-  from_path : (path : Text) (p : Project) → load_path rs path ≡ given p → (c : ℕ) × (locate (paths_of rs) path ≡ some c) × (load_record rs c ≡ given p) × Inherits rs c p
+  from_path : (path : Text) (p : Project) → load_path rs path ≡ given p → (c : ℕ) × (locate (paths_of rs) path ≡ Some c) × (load_record rs c ≡ given p) × Inherits rs c p
   unfolding load_path load_found
   from_path path p e = go (locate (paths_of rs) path) refl e
     where
-      go : (o : Option ℕ) → locate (paths_of rs) path ≡ o → load_found rs o ≡ given p → (c : ℕ) × (locate (paths_of rs) path ≡ some c) × (load_record rs c ≡ given p) × Inherits rs c p
-      go none h x = absurd (refused_given x)
-      go (some c) h x = (c, h, x, inherits rs c p (subst (λ o. Fits (length rs) (reached o)) h (locate_below rs path)) x)
+      go : (o : Option ℕ) → locate (paths_of rs) path ≡ o → load_found rs o ≡ given p → (c : ℕ) × (locate (paths_of rs) path ≡ Some c) × (load_record rs c ≡ given p) × Inherits rs c p
+      go None h x = absurd (refused_given x)
+      go (Some c) h x = (c, h, x, inherits rs c p (subst (λ o. Fits (length rs) (reached o)) h (locate_below rs path)) x)
 
   -- What tsconfig_build promises
 
@@ -140,7 +140,7 @@ module _ (commands text : Text) where
       let (qs, b, e₁) = then_given (book commands text) (λ x. build x (length old) path) e in
       let q : qs ≡ rs = book_records commands text qs b in
       let e₂ : build rs (length old) path ≡ given a = subst (λ (x : List Parsed). build x (length old) path ≡ given a) q e₁ in
-      let (p, e₃, e₄) = reached_by path (asked_path path) (build_of rs (length old)) a e₂ in
+      let (p, e₃, e₄) = reached_by path (asked_path path) (λ p. fit (length old) (build_reply rs p.site p.merges)) a e₂ in
       let (c, means, loaded, i) = from_path path p e₃ in
       let f : a ≡ build_reply rs p.site p.merges = fit_given (length old) (build_reply rs p.site p.merges) a e₄ in
       let g : a ≡ build_reply rs (flat_site rs c) p.merges = f ∙ ap (λ s. build_reply rs s p.merges) i.flattened in
@@ -148,7 +148,7 @@ module _ (commands text : Text) where
       let n : r.first ≡ c = s.first ∙ ap (λ (x : Reply). x.first) g in
       let w : r.bytes ≡ length (flat_listing rs c) = s.bytes ∙ ap (λ (x : Reply). length x.bytes) g in
       record {
-        means = means ∙ ap some (sym n);
+        means = means ∙ ap Some (sym n);
         loads = subst (Loads rs) (sym n) (loads c p loaded i);
         merges = s.second ∙ ap (λ (x : Reply). x.second) g ∙ i.merged ∙ ap (λ (x : ℕ). entries_of (seen rs) (line (seen rs) x)) (sym n);
         written = w ∙ ap (λ (x : ℕ). length (flat_listing rs x)) (sym n);
@@ -161,23 +161,26 @@ module _ (commands text : Text) where
 
   -- What tsconfig_candidates and tsconfig_tries promise
 
-  module _ (tried : Bool) (path directory s : Text) (r : Numbers) (old new : Text) where
+  module _ (directory : Option Text) (path s : Text) (r : Numbers) (old new : Text) where
     abbrev outcome : Outcome
-    outcome = tsconfig_paths tried commands text path directory s (length old)
+    outcome = tsconfig_paths commands text path directory s (length old)
 
-    paths_inherit : Told outcome r old new → Numbered outcome → r.number ≡ 0 → PathsInherit rs path (paths_by tried directory s) r old new
+    abbrev asking : List Parsed → Outcome
+    asking x = asked (asked_for path directory s) (load_path x path >>= λ p. listed (length old) (paths_by directory s p.site.config))
+
+    paths_inherit : Told outcome r old new → Numbered outcome → r.number ≡ 0 → PathsInherit rs path (paths_by directory s) r old new
     unfolding listed
     paths_inherit t h z =
         let (a, e) = answered outcome r h t.numbers z in
-        let (qs, b, e₁) = then_given (book commands text) (λ x. ask_paths tried x (length old) path directory s) e in
+        let (qs, b, e₁) = then_given (book commands text) asking (sym (paths_asked commands text path s (length old) directory) ∙ e) in
         let q : qs ≡ rs = book_records commands text qs b in
-        let e₂ : ask_paths tried rs (length old) path directory s ≡ given a = subst (λ (x : List Parsed). ask_paths tried x (length old) path directory s ≡ given a) q e₁ in
-        let (p, e₃, e₄) = reached_by path (asked_for tried path directory s) (paths_from tried directory s (length old)) a e₂ in
+        let e₂ : asking rs ≡ given a = subst (λ (x : List Parsed). asking x ≡ given a) q e₁ in
+        let (p, e₃, e₄) = reached_by path (asked_for path directory s) (λ p. listed (length old) (paths_by directory s p.site.config)) a e₂ in
         let (c, means, loaded, i) = from_path path p e₃ in
-        let f : a ≡ listed_reply (paths_by tried directory s p.site.config) = fit_given (length old) (listed_reply (paths_by tried directory s p.site.config)) a e₄ in
-        let g : a ≡ listed_reply (paths_by tried directory s (flat_site rs c).config) = f ∙ ap (λ x. listed_reply (paths_by tried directory s x.config)) i.flattened in
+        let f : a ≡ listed_reply (paths_by directory s p.site.config) = fit_given (length old) (listed_reply (paths_by directory s p.site.config)) a e₄ in
+        let g : a ≡ listed_reply (paths_by directory s (flat_site rs c).config) = f ∙ ap (λ x. listed_reply (paths_by directory s x.config)) i.flattened in
         let m = same outcome a r e t.numbers in
-        let w : r.bytes ≡ length (laid (paths_by tried directory s (flat_site rs c).config)) = m.bytes ∙ ap (λ (x : Reply). length x.bytes) g in
+        let w : r.bytes ≡ length (laid (paths_by directory s (flat_site rs c).config)) = m.bytes ∙ ap (λ (x : Reply). length x.bytes) g in
         record {
           config = c;
           means = means;
@@ -187,19 +190,15 @@ module _ (commands text : Text) where
           output =
               left outcome a old new e t.bytes
               ∙ ap (λ (x : Reply). x.bytes ++ drop (length x.bytes) old) g
-              ∙ ap (λ (k : ℕ). laid (paths_by tried directory s (flat_site rs c).config) ++ drop k old) (sym w);
+              ∙ ap (λ (k : ℕ). laid (paths_by directory s (flat_site rs c).config) ++ drop k old) (sym w);
         }
 
   module _ (path s : Text) (r : Numbers) (old new : Text) where
     pub candidates_inherit : Told (tsconfig_candidates commands text path s (length old)) r old new → r.number ≡ 0 → CandidatesInherit rs path s r old new
-    candidates_inherit t z =
-        let e = candidates_paths commands text path path s (length old) in
-        paths_inherit false path path s r old new (subst (λ (o : Outcome). Told o r old new) e t) (subst Numbered e (candidates_numbered commands text path s (length old))) z
+    candidates_inherit t z = paths_inherit None path s r old new t (candidates_numbered commands text path s (length old)) z
 
     pub tries_inherit : (directory : Text) → Told (tsconfig_tries commands text path directory s (length old)) r old new → r.number ≡ 0 → TriesInherit rs path directory s r old new
-    tries_inherit directory t z =
-        let e = tries_paths commands text path directory s (length old) in
-        paths_inherit true path directory s r old new (subst (λ (o : Outcome). Told o r old new) e t) (subst Numbered e (tries_numbered commands text path directory s (length old))) z
+    tries_inherit directory t z = paths_inherit (Some directory) path s r old new t (tries_numbered commands text path directory s (length old)) z
 
   -- Where the specifier does not start with a dot and the directory is outside node_modules, the tries are the candidates and then the baseUrl path, if that is not among them
   pub one_story :
@@ -230,15 +229,15 @@ module _ (commands text : Text) where
 
   module _ (path : Text) where
     -- the config of a folder
-    one : (c : ℕ) → c < length rs → (o : Owner) (above : Answer (Option Owner)) → owner_at rs path (some c) above ≡ given (some o) →
-        (above ≡ given (some o) → OwnerInherits rs path o.found o.solved) → OwnerInherits rs path o.found o.solved
+    one : (c : ℕ) → c < length rs → (o : Owner) (above : Answer (Option Owner)) → owner_at rs path (Some c) above ≡ given (Some o) →
+        (above ≡ given (Some o) → OwnerInherits rs path o.found o.solved) → OwnerInherits rs path o.found o.solved
     unfolding owner_at owned
     one c lt o above e more =
         let (p, l, e₁) = then_given (load_record rs c) (λ q. owned path q above) e in
         let i = inherits rs c p lt l in
         either (claims_ownership path p.site p.references)
         (λ y.
-        let g : some (record { found = p.site.number; solved = solution path p.site p.references }) ≡ some o = given_same (rw y at e₁) in
+        let g : Some (record { found = p.site.number; solved = solution path p.site p.references }) ≡ Some o = given_same (rw y at e₁) in
         let k : record { found = p.site.number; solved = solution path p.site p.references } ≡ o = cc in
         let n : o.found ≡ c = sym (ap (λ (x : Owner). x.found) k) ∙ ap (λ t. t.number) i.flattened in
         owns c lt p l i o n (sym (i.claimed_with path) ∙ y) (sym (ap (λ (x : Owner). x.solved) k) ∙ ap (λ t. solution path t p.references) i.flattened))
@@ -253,20 +252,20 @@ module _ (commands text : Text) where
     find_fits d = subst (λ (n : ℕ). Fits n (reached (find (push_of d tsconfig_json) (paths_of rs)))) (length-map rs (λ r. r.path)) (find_below (push_of d tsconfig_json) (paths_of rs))
 
     folder : (x : Option ℕ) → Fits (length rs) (reached x) → (o : Owner) (above : Answer (Option Owner)) →
-        (above ≡ given (some o) → OwnerInherits rs path o.found o.solved) → owner_at rs path x above ≡ given (some o) → OwnerInherits rs path o.found o.solved
+        (above ≡ given (Some o) → OwnerInherits rs path o.found o.solved) → owner_at rs path x above ≡ given (Some o) → OwnerInherits rs path o.found o.solved
     unfolding owner_at
-    folder none h o above more y = more y
-    folder (some c) h o above more y = one c h o above y more
+    folder None h o above more y = more y
+    folder (Some c) h o above more y = one c h o above y more
 
-    walks : (ds : List Text) (o : Owner) → owner_from rs path ds ≡ given (some o) → OwnerInherits rs path o.found o.solved
+    walks : (ds : List Text) (o : Owner) → owner_from rs path ds ≡ given (Some o) → OwnerInherits rs path o.found o.solved
     unfolding owner_from
     walks [] o e = absurd (none_some o (given_same e))
     walks (d ∷ ds) o e = folder (find (push_of d tsconfig_json) (paths_of rs)) (find_fits d) o (owner_from rs path ds) (walks ds o) e
 
     found : (r : Numbers) (a : Reply) (w : Option Owner) → owner_of rs path ≡ given w → owner_reply w ≡ given a → Same a r → (r.first ≡ 65535 → ⊥) → OwnerInherits rs path r.first r.second
     unfolding owner_of owner_reply
-    found r a none e g s h = absurd (h (s.first ∙ sym (ap (λ (x : Reply). x.first) (given_same g))))
-    found r a (some o) e g s h =
+    found r a None e g s h = absurd (h (s.first ∙ sym (ap (λ (x : Reply). x.first) (given_same g))))
+    found r a (Some o) e g s h =
         either (inside_node_modules path)
         (λ y. absurd (none_some o (given_same (rw y at e))))
         (λ f.
@@ -289,23 +288,23 @@ module _ (commands text : Text) where
         found r a w e₃ e₄ s some-found
 
     -- where no owner is found, the config of each folder on the walk loads, and its flat config does not claim the path
-    pub owner_passed : (ds : List Text) → owner_from rs path ds ≡ given none → All (Passed rs path) ds
+    pub owner_passed : (ds : List Text) → owner_from rs path ds ≡ given None → All (Passed rs path) ds
     unfolding owner_from owner_at owned
     owner_passed [] e = nil
     owner_passed (d ∷ ds) e =
         let (x, more) = passes (find (push_of d tsconfig_json) (paths_of rs)) (find_fits d) (owner_from rs path ds) e in
         cons (record { passes = x }) (owner_passed ds more)
       where
-        passes : (o : Option ℕ) → Fits (length rs) (reached o) → (above : Answer (Option Owner)) → owner_at rs path o above ≡ given none →
-            ((c : ℕ) → o ≡ some c → (p : Project) × (load_record rs c ≡ given p) × (claims_ownership path (flat_site rs c) p.references ≡ false)) × (above ≡ given none)
-        passes none h above y = (λ c n. absurd (none_some c n), y)
-        passes (some b) h above y =
+        passes : (o : Option ℕ) → Fits (length rs) (reached o) → (above : Answer (Option Owner)) → owner_at rs path o above ≡ given None →
+            ((c : ℕ) → o ≡ Some c → (p : Project) × (load_record rs c ≡ given p) × (claims_ownership path (flat_site rs c) p.references ≡ false)) × (above ≡ given None)
+        passes None h above y = (λ c n. absurd (none_some c n), y)
+        passes (Some b) h above y =
             let (p, l, g) = then_given (load_record rs b) (λ q. owned path q above) y in
             by_test (claims_ownership path p.site p.references)
             (λ t. absurd (none_some _ (sym (given_same (rw t at g)))))
             (λ f. (λ c n. let k : b ≡ c = cc in subst (λ (i : ℕ). (q : Project) × (load_record rs i ≡ given q) × (claims_ownership path (flat_site rs i) q.references ≡ false)) k (p, l, sym ((inherits rs b p h l).claimed_with path) ∙ f), rw f at g))
 
--- No record's number is 65,535, which stands for none
+-- No record's number is 65,535, which stands for None
 
 -- how many commands are decoded
 decoded_count : Decoded → ℕ
@@ -326,8 +325,8 @@ unfolding next
 records_next b c = by_test (eqb c.op end) (λ y. rw y (omega arith)) (λ f. rw f (omega arith))
 
 turn : {S : Type 0} {P : Type 0} (o : Option ℕ) (at : ℕ) (k : S → Answer (List (List Cmd))) (s : S) (rs : List (List Cmd)) → unless o at k s ≡ given rs → (k s ≡ given rs → P) → P
-turn (some n) at k s rs x h = absurd (refused_given x)
-turn none at k s rs x h = h x
+turn (Some n) at k s rs x h = absurd (refused_given x)
+turn None at k s rs x h = h x
 
 judged_few : (text : Text) (b : Before) (d : Decoded) (rs : List (List Cmd)) → judge text b d ≡ given rs → length rs ≤ length b.records + decoded_count d
 unfolding judge finish decoded_count
@@ -355,8 +354,8 @@ module _ (commands text path : Text) where
   none_found : (r : Numbers) (a : Reply) (w : Option Owner) → owner_of (records_of commands text) path ≡ given w → owner_reply w ≡ given a → Same a r → r.first ≡ 65535 → inside_node_modules path ≡ false →
       All (Passed (records_of commands text) path) (folders (length (components path) - 1) path)
   unfolding owner_of owner_reply
-  none_found r a none e g s h f = owner_passed commands text path (folders (length (components path) - 1) path) (rw f at e)
-  none_found r a (some o) e g s h f =
+  none_found r a None e g s h f = owner_passed commands text path (folders (length (components path) - 1) path) (rw f at e)
+  none_found r a (Some o) e g s h f =
       let x : OwnerInherits (records_of commands text) path o.found o.solved = walks commands text path (folders (length (components path) - 1) path) o (rw f at e) in
       let z : o.found ≡ 65535 = ap (λ (y : Reply). y.first) (given_same g) ∙ sym s.first ∙ h in
       absurd (omega (arith, z, x.inside, few_records commands text))

@@ -1,216 +1,187 @@
 -- The ways out of the entries. Assumes nothing.
-use mathlib.Core.Path.{◌≡◌, refl, sym, ap, subst, ◌∙◌}
+use mathlib.Core.Path.{◌≡◌, refl, sym, ap, ◌∙◌}
 use mathlib.Core.List.{List, [], ◌∷◌}
-use mathlib.Core.Bool.{Bool, true, false, true≢false, ◌&&◌, cond}
-use mathlib.Core.Option.{Option, some, none}
-use Prim.Native.Nat.{ℕ, ◌≤◌}
+use mathlib.Core.Bool.{Bool, true, false, true≢false, ◌&&◌}
+use Rattle.std.proofs.Common.{Bor}
+use Rattle.std.specs.Prelude.{Option, Some, None, IfSome, option_copied, Result, Ok, Err}
+use Prim.Native.Nat.{ℕ, ◌≤◌, ◌<◌}
 use native.Mathlib.Omega.{arith}
-use lib.ListN.{length, take, length-take}
 use lib.Dec.{leb}
+use lib.ListN.{length}
 use borrow.Author.Tests.{leb-true}
 use Rattle.text.specs.Bytes.{Text}
-use Rattle.emit.specs.Emit.{Holds}
-use Rattle.book.specs.Answer.{refused, given, ◌>>=◌}
-use Rattle.book.specs.Book.{verdict}
-use Rattle.book.specs.declared.Cmd.{Cmd}
-use Rattle.book.specs.Find.{locate}
+use Rattle.text.proofs.Picks.{by_test}
 use Rattle.path_rules.specs.Paths.{asked_path}
 use Rattle.strings.specs.Strings.{string_rule}
+use Rattle.book.specs.Answer.{Answer, refused, given, ◌>>=◌}
+use Rattle.book.specs.Book.{verdict}
+use Rattle.book.specs.Find.{locate}
+use Rattle.book.specs.Index.{AcceptedAs}
+use Rattle.book.specs.declared.Refusal.{Refusal}
+use Rattle.book.specs.Refusals.{number_of, refusal}
+use Rattle.records.specs.Tables.{paths_in}
+use Rattle.records.proofs.Paths.{locate_within}
 use Rattle.tsconfig.specs.Parsed.{Parsed}
 use Rattle.tsconfig_resolver.specs.Find.{paths_of}
 use Rattle.tsconfig_resolver.specs.Project.{Project, load_record, load_found, load_path, owner_of}
 use Rattle.rows.specs.Records.{records_of}
-use Rattle.replies.specs.Replies.{Outcome, returned, numbers_of}
-use Rattle.questions.specs.Questions.{asked, book, build, candidates_of, owner, owner_reply, tsconfig_build, tsconfig_owner, tsconfig_candidates, tsconfig_tries, tries_of}
-use Rattle.questions.specs.Replies.{build_of, asked_for, ask_paths, tsconfig_paths, Ready, OpenedBy, Opens}
-use Rattle.questions.specs.declared.Opening.{Opening}
-use Rattle.questions.specs.declared.Opening.TheVariants as opening
-use Rattle.book.specs.Index.{AcceptedAs, JudgedAs}
-use Rattle.book.specs.declared.Judged.{Judged}
-use Rattle.book.specs.declared.Judged.TheVariants as judged
 use Rattle.rows.specs.Rows.{site_of}
-use Rattle.references.specs.References.{sites_of, Opened, WholeAs}
-use Rattle.references.specs.declared.Whole.{Whole}
-use Rattle.references.specs.declared.Whole.TheVariants as whole
-use Rattle.owner.specs.Owned.{answered}
-use Rattle.owner.specs.declared.Owned.{Owned}
-use Rattle.owner.specs.declared.Owned.TheVariants as owned
+use Rattle.rows.specs.Checked.{records_in}
+use Rattle.rows.specs.declared.CheckedBook.{CheckedBook}
+use Rattle.replies.specs.Replies.{Outcome, returned, numbers_of, fit, listed, Told}
 use Rattle.replies.specs.declared.Numbers.{Numbers}
+use Rattle.replies.proofs.Replies.{told_refused}
+use Rattle.build_reply.specs.Reply.{build_reply}
+use Rattle.paths_reply.specs.Paths.{paths_by}
+use Rattle.owner.specs.Owned.{answered}
+use Rattle.owner.specs.declared.Owner.{Owner}
+use Rattle.questions.specs.Questions.{asked, book, build, candidates_of, tries_of, owner, owner_reply, tsconfig_build, tsconfig_owner, tsconfig_candidates, tsconfig_tries}
+use Rattle.questions.specs.Replies.{asked_for, asked_load, tsconfig_paths, numbers_by, Ready, ToldBy, OwnerAs}
+use Rattle.questions.specs.declared.Loaded.{Loaded}
 
--- The asked path, the config that it means, and its load
-
-module _ (rs : List Parsed) (path : Text) (after : Project → Outcome) where
-  pub asked_not : (ok : Bool) → ok ≡ false → asked ok (load_path rs path >>= after) ≡ refused 7 0
-  unfolding asked
-  asked_not ok e = rw e refl
-
-  module _ (ok : Bool) (e : ok ≡ true) (f : Option ℕ) (h : f ≡ locate (paths_of rs) path) where
-    pub asked_missing : f ≡ none → asked ok (load_path rs path >>= after) ≡ refused 8 65535
-    unfolding asked load_path load_found
-    asked_missing n = rw (e, ← h, n) refl
-
-    module _ (c : ℕ) (g : f ≡ some c) where
-      pub asked_found : asked ok (load_path rs path >>= after) ≡ (load_record rs c >>= after)
-      unfolding asked load_path load_found
-      asked_found = rw (e, ← h, g) refl
-
--- what a loaded record makes of the rest
-pub after_refused : (rs : List Parsed) (c k p : ℕ) (after : Project → Outcome) → load_record rs c ≡ refused k p → (load_record rs c >>= after) ≡ refused k p
-after_refused rs c k p after e = rw e refl
-
-pub after_given : (rs : List Parsed) (c : ℕ) (p : Project) (after : Project → Outcome) → load_record rs c ≡ given p → (load_record rs c >>= after) ≡ after p
-after_given rs c p after e = rw e refl
+no_answer : {A X : Type 0} {n p : ℕ} {a : A} → refused n p ≡ given a → X
+no_answer e = let z : ◌≡◌ {A = ℕ} 0 1 = cc in absurd (omega (arith, z))
 
 -- The book first
 
 module _ (commands text : Text) where
-  book_refused : (k p : ℕ) → verdict commands text ≡ refused k p → book commands text ≡ refused k p
+  pub book_refused : (r : Refusal) → verdict commands text ≡ refusal r → book commands text ≡ refusal r
   unfolding book
-  book_refused k p e = rw e refl
+  book_refused r e = rw e refl
 
-  book_given : (rs : List (List Cmd)) → verdict commands text ≡ given rs → book commands text ≡ given (records_of commands text)
+  pub book_given : (begins starts lens : List ℕ) (n : ℕ) → AcceptedAs commands text begins starts lens n → book commands text ≡ given (records_of commands text)
   unfolding book records_of
-  book_given rs e = rw e refl
+  book_given begins starts lens n a = rw (a.accepted) refl
 
-  module _ (k p : ℕ) (e : verdict commands text ≡ refused k p) where
-    pub build_refused : (path : Text) (room : ℕ) → tsconfig_build commands text path room ≡ refused k p
-    unfolding tsconfig_build
-    build_refused path room = rw (book_refused k p e) refl
+-- A record that is loaded, where the question may be asked
 
-    pub owner_refused : (path : Text) → tsconfig_owner commands text path ≡ refused k p
-    unfolding tsconfig_owner
-    owner_refused path = rw (book_refused k p e) refl
+pub not_asked : (rs : List Parsed) (path : Text) (ok : Bool) → ok ≡ false → asked_load ok rs path ≡ refused 7 0
+not_asked rs path ok e = rw e refl
 
-    pub paths_refused : (tried : Bool) (path directory specifier : Text) (room : ℕ) → tsconfig_paths tried commands text path directory specifier room ≡ refused k p
-    paths_refused tried path directory specifier room = rw (book_refused k p e) refl
+module _ (b : CheckedBook) (path : Text) (ok : Bool) (e : ok ≡ true) (f : Option ℕ) (h : f ≡ locate (paths_in b.paths) path) where
+  located : f ≡ locate (paths_of (records_in b)) path
+  located = h ∙ ap (λ t. locate t path) b.listed.paths
 
-  module _ (rs : List (List Cmd)) (e : verdict commands text ≡ given rs) where
-    pub build_accepted : (path : Text) (room : ℕ) → tsconfig_build commands text path room ≡ build (records_of commands text) room path
-    unfolding tsconfig_build
-    build_accepted path room = rw (book_given rs e) refl
+  pub asked_missing : f ≡ None → asked_load ok (records_in b) path ≡ refused 8 65535
+  unfolding load_path load_found
+  asked_missing n = rw (e, ← located, n) refl
 
-    pub owner_accepted : (path : Text) → tsconfig_owner commands text path ≡ owner (records_of commands text) path
-    unfolding tsconfig_owner
-    owner_accepted path = rw (book_given rs e) refl
+  module _ (c : ℕ) (g : f ≡ Some c) where
+    pub asked_inside : c < b.paths.count
+    asked_inside = locate_within b.paths.text.now b.paths.starts.now b.paths.lens.now b.paths.count path c (sym g ∙ h)
 
-    pub paths_accepted : (tried : Bool) (path directory specifier : Text) (room : ℕ) →
-        tsconfig_paths tried commands text path directory specifier room ≡ ask_paths tried (records_of commands text) room path directory specifier
-    paths_accepted tried path directory specifier room = rw (book_given rs e) refl
+    pub asked_found : asked_load ok (records_in b) path ≡ load_record (records_in b) c
+    unfolding load_path load_found
+    asked_found = rw (e, ← located, g) refl
 
-  -- the two questions as one
-  pub candidates_paths : (path directory specifier : Text) (room : ℕ) → tsconfig_candidates commands text path specifier room ≡ tsconfig_paths false commands text path directory specifier room
-  unfolding tsconfig_candidates candidates_of
-  candidates_paths path directory specifier room = refl
+-- What is made of a load
 
-  pub tries_paths : (path directory specifier : Text) (room : ℕ) → tsconfig_tries commands text path directory specifier room ≡ tsconfig_paths true commands text path directory specifier room
-  unfolding tsconfig_tries tries_of
-  tries_paths path directory specifier room = refl
+pub asked_then : (ok : Bool) (rs : List Parsed) (path : Text) (after : Project → Outcome) → asked ok (load_path rs path >>= after) ≡ (asked_load ok rs path >>= after)
+unfolding asked
+asked_then true rs path after = refl
+asked_then false rs path after = refl
 
--- The definitions as such steps
+module _ (o : Outcome) (rs : List Parsed) (a : Answer Project) (after : Project → Outcome) (e : o ≡ (a >>= after)) where
+  pub then_refused : (r : Refusal) → a ≡ refusal r → o ≡ refusal r
+  then_refused r h = e ∙ rw h refl
 
-pub build_steps : (rs : List Parsed) (room : ℕ) (path : Text) → build rs room path ≡ asked (asked_path path) (load_path rs path >>= build_of rs room)
-unfolding build
-build_steps rs room path = refl
+  pub then_ready : (l : Loaded) (y : Ready rs a l) → o ≡ after (record { site = site_of rs l.row; references = y.references; merges = l.merges })
+  then_ready l y = e ∙ rw (y.answer) refl
 
--- A record that is opened
+-- what is loaded may be asked for
+pub ready_asked : (ok : Bool) (rs : List Parsed) (path : Text) (l : Loaded) → Ready rs (asked_load ok rs path) l → ok ≡ true
+ready_asked ok rs path l y = by_test ok (λ t. t) (λ f. no_answer (sym (not_asked rs path ok f) ∙ y.answer))
 
-module _ (rs : List Parsed) (c : ℕ) (row refs : List ℕ) (r : Whole) (w : WholeAs rs c row refs r) where
-  pub opens_refused : (base : List ℕ) (k p : ℕ) → r ≡ whole.Refused k p → Opens rs c row base (opening.Refused k p)
-  opens_refused base k p e = record { told = subst (WholeAs rs c row refs) e w }
+-- The paths that are asked for
 
-  module _ (m k : ℕ) (e : r ≡ whole.Project m k) where
-    pub opened : Opened rs c row refs m k
-    opened = subst (WholeAs rs c row refs) e w
+module _ (commands text path specifier : Text) (room : ℕ) (directory : Option Text) where
+  -- the paths of a config that is loaded
+  abbrev pub paths_of_load : Project → Outcome
+  paths_of_load p = listed room (paths_by directory specifier p.site.config)
 
-    pub opens_ready : (base : List ℕ) (len : ℕ) → Holds len base (site_of rs row).config.base → Opens rs c row base (opening.Ready m len)
-    opens_ready base len h = record { told = record { references = sites_of rs refs k; answer = opened.answer; row_is = opened.row; base_is = h } }
+  pub paths_asked : tsconfig_paths commands text path directory specifier room ≡ (book commands text >>= λ rs. asked (asked_for path directory specifier) (load_path rs path >>= paths_of_load))
+  unfolding tsconfig_candidates tsconfig_tries candidates_of tries_of
+  paths_asked = by_directory directory
+    where
+      by_directory : (d : Option Text) →
+          tsconfig_paths commands text path d specifier room ≡ (book commands text >>= λ rs. asked (asked_for path d specifier) (load_path rs path >>= λ p. listed room (paths_by d specifier p.site.config)))
+      by_directory None = refl
+      by_directory (Some d) = refl
 
-module _ (rs : List Parsed) (c : ℕ) (row base : List ℕ) (r : Opening) (w : Opens rs c row base r) where
-  pub after_not : (after : Project → Outcome) (k p : ℕ) → r ≡ opening.Refused k p → (load_record rs c >>= after) ≡ refused k p
-  after_not after k p e = after_refused rs c k p after (subst (OpenedBy rs c row base) e w.told)
+  pub paths_refused : (r : Refusal) → book commands text ≡ refusal r → tsconfig_paths commands text path directory specifier room ≡ refusal r
+  paths_refused r e = paths_asked ∙ rw e refl
 
-  module _ (m len : ℕ) (e : r ≡ opening.Ready m len) where
-    pub ready : Ready rs c row base m len
-    ready = subst (OpenedBy rs c row base) e w.told
+  pub paths_accepted : (rs : List Parsed) → book commands text ≡ given rs → (ok : Bool) → ok ≡ asked_for path directory specifier →
+      tsconfig_paths commands text path directory specifier room ≡ (asked_load ok rs path >>= paths_of_load)
+  paths_accepted rs e ok h = paths_asked ∙ rw (e, h) (asked_then _ rs path _)
 
-    pub after_ready : (after : Project → Outcome) → (load_record rs c >>= after) ≡ after (record { site = site_of rs row; references = ready.references; merges = m })
-    after_ready after = after_given rs c (record { site = site_of rs row; references = ready.references; merges = m }) after ready.answer
+both_true : (a b : Bool) → a && b ≡ true → (a ≡ true) × (b ≡ true)
+both_true true b h = (refl, h)
+both_true false b h = absurd (true≢false (sym h))
 
--- the base that was written to the buffer
-module _ (buffer base : Text) (len : ℕ) (h : Holds len buffer base) (b : Text) (e : b ≡ take len buffer) where
-  pub base_same : b ≡ base
-  base_same = e ∙ h.bytes
+string_short : (s : Text) → string_rule s ≡ true → length s ≤ 512
+unfolding string_rule
+string_short s h = leb-true (length s) 512 (both_true (leb (length s) 512) _ h).0
 
-  pub base_short : length buffer ≡ 1600 → length b ≤ 1600
-  base_short l = omega (arith, l, ap length e, length-take len buffer)
+asked_short : (s : Text) → asked_path s ≡ true → length s ≤ 512
+unfolding asked_path
+asked_short s h = string_short s (both_true (string_rule s) _ h).0
+
+module _ (path specifier : Text) where
+  pub specifier_short : (directory : Option Text) → asked_for path directory specifier ≡ true → length specifier ≤ 512
+  specifier_short None h = string_short specifier (both_true (asked_path path) _ h).1
+  specifier_short (Some d) h = string_short specifier (both_true (asked_path d) _ (both_true (asked_path path) _ h).1).1
+
+  pub directory_short : (directory : Option (Bor Text)) → asked_for path (option_copied directory) specifier ≡ true → IfSome directory (λ d. length d.now ≤ 512)
+  directory_short None h = tt
+  directory_short (Some d) h = asked_short d.now (both_true (asked_path d.now) _ (both_true (asked_path path) _ h).1).0
+
+-- A build
+
+module _ (commands text path : Text) (room : ℕ) where
+  pub build_refused : (r : Refusal) → book commands text ≡ refusal r → tsconfig_build commands text path room ≡ refusal r
+  unfolding tsconfig_build
+  build_refused r e = rw e refl
+
+  pub build_accepted : (rs : List Parsed) → book commands text ≡ given rs → (ok : Bool) → ok ≡ asked_path path →
+      tsconfig_build commands text path room ≡ (asked_load ok rs path >>= λ p. fit room (build_reply rs p.site p.merges))
+  unfolding tsconfig_build build
+  build_accepted rs e ok h = rw (e, h) (asked_then (asked_path path) rs path _)
 
 -- The owner, which lends no output
 
-module _ (rs : List Parsed) (path : Text) where
-  pub owner_not : (ok : Bool) → ok ≡ asked_path path → ok ≡ false → owner rs path ≡ refused 7 0
-  unfolding owner asked
-  owner_not ok h e = rw (← h, e) refl
+module _ (commands text path : Text) where
+  pub owner_refused : (r : Refusal) → book commands text ≡ refusal r → tsconfig_owner commands text path ≡ refusal r
+  unfolding tsconfig_owner
+  owner_refused r e = rw e refl
 
-  module _ (ok : Bool) (h : ok ≡ asked_path path) (e : ok ≡ true) (r : Owned) (w : owner_of rs path ≡ answered r (given none)) where
-    owner_is : owner rs path ≡ (answered r (given none) >>= owner_reply)
-    unfolding owner asked
-    owner_is = rw (← h, e, w) refl
+  module _ (rs : List Parsed) (e : book commands text ≡ given rs) (ok : Bool) (h : ok ≡ asked_path path) where
+    pub owner_not : ok ≡ false → tsconfig_owner commands text path ≡ refused 7 0
+    unfolding tsconfig_owner owner asked
+    owner_not n = rw (e, ← h, n) refl
 
-    pub owner_refuses : (k p : ℕ) → r ≡ owned.Refused k p → owner rs path ≡ refused k p
-    owner_refuses k p x = owner_is ∙ ap (λ (q : Owned). answered q (given none) >>= owner_reply) x
+    module _ (y : ok ≡ true) (r : Result (Option Owner) Refusal) (w : owner_of rs path ≡ answered r (given None)) where
+      found : tsconfig_owner commands text path ≡ (answered r (given None) >>= owner_reply)
+      unfolding tsconfig_owner owner asked
+      found = rw (e, ← h, y, w) refl
 
-    pub owner_nobody : r ≡ owned.Nobody → (n : Numbers) → numbers_of n ≡ 0 ∷ 0 ∷ 65535 ∷ 65535 ∷ 0 ∷ [] → numbers_of n ≡ returned (owner rs path)
-    unfolding owner_reply returned
-    owner_nobody x n a = a ∙ sym (ap returned (owner_is ∙ ap (λ (q : Owned). answered q (given none) >>= owner_reply) x))
+      pub owner_refuses : (x : Refusal) → r ≡ Err x → tsconfig_owner commands text path ≡ refusal x
+      owner_refuses x g = found ∙ rw g refl
 
-    pub owner_found : (i j : ℕ) → r ≡ owned.By i j → (n : Numbers) → numbers_of n ≡ 0 ∷ 0 ∷ i ∷ j ∷ 0 ∷ [] → numbers_of n ≡ returned (owner rs path)
-    unfolding owner_reply returned
-    owner_found i j x n a = a ∙ sym (ap returned (owner_is ∙ ap (λ (q : Owned). answered q (given none) >>= owner_reply) x))
+      pub owner_nobody : r ≡ Ok None → (n : Numbers) → numbers_of n ≡ 0 ∷ 0 ∷ 65535 ∷ 65535 ∷ 0 ∷ [] → numbers_of n ≡ returned (tsconfig_owner commands text path)
+      unfolding owner_reply returned
+      owner_nobody g n a = a ∙ sym (ap returned (found ∙ ap (λ (q : Result (Option Owner) Refusal). answered q (given None) >>= owner_reply) g))
 
--- what is told of a book, by its case
-module _ (commands text : Text) (begins starts lens : List ℕ) (r : Judged) (w : JudgedAs commands text begins starts lens r) where
-  pub judged_no : (k p : ℕ) → r ≡ judged.No k p → verdict commands text ≡ refused k p
-  judged_no k p e = subst (JudgedAs commands text begins starts lens) e w
+      pub owner_found : (o : Owner) → r ≡ Ok (Some o) → (n : Numbers) → numbers_of n ≡ 0 ∷ 0 ∷ o.found ∷ o.solution ∷ 0 ∷ [] → numbers_of n ≡ returned (tsconfig_owner commands text path)
+      unfolding owner_reply returned
+      owner_found o g n a = a ∙ sym (ap returned (found ∙ ap (λ (q : Result (Option Owner) Refusal). answered q (given None) >>= owner_reply) g))
 
-  pub judged_yes : (n : ℕ) → r ≡ judged.Yes n → AcceptedAs commands text begins starts lens n
-  judged_yes n e = subst (JudgedAs commands text begins starts lens) e w
+-- The numbers of an answer
 
--- Whether C or T may be asked
+pub told_by : (o : Outcome) (old new : Text) (r : Result Numbers Refusal) → ToldBy o old new r → (n : Numbers) → numbers_of n ≡ numbers_by r → Told o n old new
+told_by o old new (Err r) w n e = told_refused o n old new (number_of r.fault) r.place w.0 e w.1
+told_by o old new (Ok m) w n e = record { numbers = e ∙ w.numbers; bytes = w.bytes }
 
-module _ (tried : Bool) (path directory specifier : Text) where
-  module _ (p : Bool) (e : p ≡ asked_path path) where
-    pub path_not : p ≡ false → false ≡ asked_for tried path directory specifier
-    path_not n = rw (← e, n) refl
-
-    module _ (y : p ≡ true) (s : Bool) (g : s ≡ string_rule specifier) where
-      pub without_directory : tried ≡ false → s ≡ asked_for tried path directory specifier
-      without_directory n = rw (← e, y, n) g
-
-      module _ (t : tried ≡ true) (d : Bool) (h : d ≡ asked_path directory) where
-        pub with_directory : d ≡ true → s ≡ asked_for tried path directory specifier
-        with_directory z = rw (← e, y, t, ← h, z) g
-
-    pub directory_not : p ≡ true → tried ≡ true → (d : Bool) → d ≡ asked_path directory → d ≡ false → false ≡ asked_for tried path directory specifier
-    directory_not y t d h n = rw (← e, y, t, ← h, n) refl
-
-  first_true : (a b : Bool) → a && b ≡ true → a ≡ true
-  first_true true b h = refl
-  first_true false b h = h
-
-  second_true : (a b : Bool) → a && b ≡ true → b ≡ true
-  second_true true b h = h
-  second_true false b h = absurd (true≢false (sym h))
-
-  module _ (r : Bool) (e : r ≡ asked_for tried path directory specifier) (y : r ≡ true) where
-    rest : cond tried (asked_path directory) true && string_rule specifier ≡ true
-    rest = second_true (asked_path path) _ (sym e ∙ y)
-
-    pub specifier_short : length specifier ≤ 512
-    unfolding string_rule
-    specifier_short = leb-true (length specifier) 512 (first_true (leb (length specifier) 512) _ (second_true (cond tried (asked_path directory) true) (string_rule specifier) rest))
-
-    pub directory_short : tried ≡ true → length directory ≤ 512
-    unfolding asked_path string_rule
-    directory_short t =
-        let d : asked_path directory ≡ true = first_true (asked_path directory) (string_rule specifier) (rw t at rest) in
-        leb-true (length directory) 512 (first_true (leb (length directory) 512) _ (first_true (string_rule directory) _ d))
+pub owner_by : (o : Outcome) (r : Result Numbers Refusal) → OwnerAs o r → (n : Numbers) → numbers_of n ≡ numbers_by r → numbers_of n ≡ returned o
+owner_by o (Err r) w n e = e ∙ sym (ap returned w)
+owner_by o (Ok m) w n e = e ∙ w

@@ -1,6 +1,6 @@
 -- The numbers of refusals: 1 to 13, so that 0 stands for an answer.
 use Rattle.std.specs.Prelude.{ℕ, ◌≤◌}
-use Rattle.std.proofs.Math.Option.{Option, some, none}
+use Rattle.std.specs.Prelude.{Option, Some, None}
 use Rattle.book.specs.Answer.{Answer, refused, given}
 
 -- a number of document 01's table
@@ -14,5 +14,5 @@ Numbered (given a) = Unit {0}
 
 -- if there is a refusal, it is one of the table
 abbrev pub NumberedIf : Option ℕ → Type 0
-NumberedIf none = Unit {0}
-NumberedIf (some k) = InTable k
+NumberedIf None = Unit {0}
+NumberedIf (Some k) = InTable k

@@ -1,7 +1,7 @@
 -- Demand 3 over what the entries promise: from the numbers that a C function returns and the output that it leaves to the line rule, for every book
 -- and every question that is not refused. What is quoted are demand 3's sentences.
 use Rattle.std.specs.Prelude.{◌≡◌, List, ◌++◌, true, false, ℕ, ◌+◌, ◌<◌, length, take, drop}
-use Rattle.std.proofs.Math.Option.{some}
+use Rattle.std.specs.Prelude.{Some}
 use Rattle.text.specs.Bytes.{Text}
 use Rattle.names.specs.Names.{tsconfig_json}
 use Rattle.join.specs.Join.{push_of}
@@ -36,7 +36,7 @@ module _ (rs : List Parsed) where
 
   -- "the flat config yields .. the build's whole output", and the merges counted
   pub record BuildInherits (path : Text) (r : Numbers) (old new : Text) : Type 1 where
-    pub means : locate (paths_of rs) path ≡ some r.first
+    pub means : locate (paths_of rs) path ≡ Some r.first
     pub loads : Loads r.first
     pub merges : r.second ≡ entries_of (seen rs) (line (seen rs) r.first)
     pub written : r.bytes ≡ length (flat_listing r.first)
@@ -45,7 +45,7 @@ module _ (rs : List Parsed) where
   -- the paths that are written are those that the flat config gives
   pub record PathsInherit (path : Text) (paths : Settings → List Text) (r : Numbers) (old new : Text) : Type 1 where
     pub config : ℕ
-    pub means : locate (paths_of rs) path ≡ some config
+    pub means : locate (paths_of rs) path ≡ Some config
     pub loads : Loads config
     pub count : r.first ≡ length (paths (flat_site rs config).config)
     pub written : r.bytes ≡ length (laid (paths (flat_site rs config).config))
@@ -63,7 +63,7 @@ module _ (rs : List Parsed) where
   -- what follows is the baseUrl path or nothing.
   pub record OneStory (path s : Text) (r : Numbers) (new : Text) (q : Numbers) (old tried : Text) : Type 1 where
     pub config : ℕ
-    pub means : locate (paths_of rs) path ≡ some config
+    pub means : locate (paths_of rs) path ≡ Some config
     pub count : q.first ≡ r.first + length (flat_after config s)
     pub output : tried ≡ take r.bytes new ++ (laid (flat_after config s) ++ drop q.bytes old)
 
@@ -76,5 +76,5 @@ module _ (rs : List Parsed) where
 
   -- the config of a folder, if it has one, loads and does not claim the path
   pub record Passed (path d : Text) : Type 0 where
-    pub passes : (c : ℕ) → find (push_of d tsconfig_json) (paths_of rs) ≡ some c →
+    pub passes : (c : ℕ) → find (push_of d tsconfig_json) (paths_of rs) ≡ Some c →
         (p : Project) × (load_record rs c ≡ given p) × (claims_ownership path (flat_site rs c) p.references ≡ false)

@@ -1,6 +1,6 @@
 -- The four questions: what comes of each, from the lent bytes on.
 use Rattle.std.specs.Prelude.{List, [], map, Bool, ◌&&◌, cond, ℕ}
-use Rattle.std.proofs.Math.Option.{Option, some, none}
+use Rattle.std.specs.Prelude.{Option, Some, None}
 use Rattle.text.specs.Bytes.{Text}
 use Rattle.book.specs.Answer.{Answer, refused, given, ◌>>=◌}
 use Rattle.path_rules.specs.Paths.{asked_path}
@@ -35,10 +35,10 @@ tries_of rs room path dir s = asked (asked_path path && (asked_path dir && strin
   p ← load_path rs path
   listed room (tries p.site.config dir s))
 
--- "answers 65,535 twice for none"
+-- "answers 65,535 twice for None"
 unfoldable pub owner_reply : Option Owner → Outcome
-owner_reply none = reply 65535 65535 []
-owner_reply (some o) = reply o.found o.solved []
+owner_reply None = reply 65535 65535 []
+owner_reply (Some o) = reply o.found o.solved []
 
 -- `owner`: "found, solution"
 unfoldable pub owner : List Parsed → Text → Outcome

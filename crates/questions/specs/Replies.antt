@@ -1,57 +1,64 @@
 -- What the entries answer, in the words of the definitions.
-use Rattle.std.specs.Prelude.{◌≡◌, List, Bool, true, ◌&&◌, cond, ℕ}
+use Rattle.std.specs.Prelude.{◌≡◌, List, Bool, ◌&&◌, cond, ℕ}
+use Rattle.std.specs.Prelude.{Option, Some, None, Result, Ok, Err}
 use Rattle.text.specs.Bytes.{Text}
-use Rattle.emit.specs.Emit.{Holds}
 use Rattle.path_rules.specs.Paths.{asked_path}
 use Rattle.strings.specs.Strings.{string_rule}
-use Rattle.book.specs.Answer.{refused, given, ◌>>=◌}
+use Rattle.book.specs.declared.Refusal.{Refusal}
+use Rattle.book.specs.Refusals.{refusal}
+use Rattle.book.specs.Answer.{Answer, refused, given}
+use Rattle.rows.specs.Checked.{records_in}
+use Rattle.rows.specs.declared.CheckedBook.{CheckedBook}
 use Rattle.rows.specs.Rows.{Row, site_of}
 use Rattle.tsconfig.specs.Parsed.{Parsed}
 use Rattle.tsconfig.specs.Claims.{Site}
-use Rattle.tsconfig_resolver.specs.Project.{Project, load_record, load_path}
-use Rattle.replies.specs.Replies.{Outcome, fit, listed}
-use Rattle.build_reply.specs.Reply.{build_reply}
-use Rattle.paths_reply.specs.Paths.{paths_by}
-use Rattle.questions.specs.Questions.{asked, book}
-use Rattle.questions.specs.declared.Opening.{Opening}
-use Rattle.questions.specs.declared.Opening.TheVariants as opening
+use Rattle.tsconfig_resolver.specs.Project.{Project, load_path}
+use Rattle.replies.specs.Replies.{Outcome, returned, numbers_of, Told}
+use Rattle.replies.specs.declared.Numbers.{Numbers}
+use Rattle.questions.specs.declared.Loaded.{Loaded}
+use Rattle.questions.specs.Questions.{book, tsconfig_candidates, tsconfig_tries}
 
--- what a build makes of a loaded config
-abbrev pub build_of : List Parsed → ℕ → Project → Outcome
-build_of rs room p = fit room (build_reply rs p.site p.merges)
+-- what is told of a book by its check: the refusal, or its records
+abbrev pub Checks : Text → Text → Result CheckedBook Refusal → Type 0
+Checks commands text (Err r) = book commands text ≡ refusal r
+Checks commands text (Ok b) = book commands text ≡ given (records_in b)
 
--- what is made of the record c, once it is loaded
-abbrev pub loaded_then : List Parsed → ℕ → (Project → Outcome) → Outcome
-loaded_then rs c then = load_record rs c >>= then
+-- whether paths may be asked for; a directory is given for tries alone
+abbrev pub asked_for : Text → Option Text → Text → Bool
+asked_for path None specifier = asked_path path && string_rule specifier
+asked_for path (Some directory) specifier = asked_path path && (asked_path directory && string_rule specifier)
 
--- what they are of a loaded config
-abbrev pub paths_from : Bool → Text → Text → ℕ → Project → Outcome
-paths_from tried directory specifier room p = listed room (paths_by tried directory specifier p.site.config)
+-- the questions C and T as one
+abbrev pub tsconfig_paths : Text → Text → Text → Option Text → Text → ℕ → Outcome
+tsconfig_paths commands text path None specifier room = tsconfig_candidates commands text path specifier room
+tsconfig_paths commands text path (Some directory) specifier room = tsconfig_tries commands text path directory specifier room
 
--- whether they may be asked for; the directory is looked at for tries alone
-abbrev pub asked_for : Bool → Text → Text → Text → Bool
-asked_for tried path directory specifier = asked_path path && (cond tried (asked_path directory) true && string_rule specifier)
+-- the numbers of an answer, or of its refusal
+abbrev pub numbers_by : Result Numbers Refusal → List ℕ
+numbers_by (Ok n) = numbers_of n
+numbers_by (Err r) = returned (refusal r)
 
--- the questions C and T
-abbrev pub ask_paths : Bool → List Parsed → ℕ → Text → Text → Text → Outcome
-ask_paths tried rs room path directory specifier = asked (asked_for tried path directory specifier) (load_path rs path >>= paths_from tried directory specifier room)
+-- what is told of an outcome by an answer and by the output before and after: a refusal leaves that as it was
+abbrev pub ToldBy : Outcome → Text → Text → Result Numbers Refusal → Type 0
+ToldBy o old new (Err r) = (o ≡ refusal r) × (new ≡ old)
+ToldBy o old new (Ok n) = Told o n old new
 
--- from the lent bytes on
-abbrev pub tsconfig_paths : Bool → Text → Text → Text → Text → Text → ℕ → Outcome
-tsconfig_paths tried commands text path directory specifier room = book commands text >>= λ rs. ask_paths tried rs room path directory specifier
+-- the load that is asked for, where it may be asked for
+abbrev pub asked_load : Bool → List Parsed → Text → Answer Project
+asked_load ok rs path = cond ok (load_path rs path) (refused 7 0)
 
--- a record that is loaded, by its row, with the built base of its config and the merges made
-pub record Ready (rs : List Parsed) (c : ℕ) (row base : List ℕ) (m len : ℕ) : Type 0 where
+-- a config that is loaded, by its row and the merges made
+pub record Ready (rs : List Parsed) (a : Answer Project) (l : Loaded) : Type 0 where
   pub references : List Site
-  pub answer : load_record rs c ≡ given (record { site = site_of rs row; references = references; merges = m })
-  pub row_is : Row rs row
-  pub base_is : Holds len base (site_of rs row).config.base
+  pub answer : a ≡ given (record { site = site_of rs l.row; references = references; merges = l.merges })
+  pub sound : Row rs l.row
 
--- by its case
-abbrev pub OpenedBy : List Parsed → ℕ → List ℕ → List ℕ → Opening → Type 0
-OpenedBy rs c row base (opening.Refused k p) = load_record rs c ≡ refused k p
-OpenedBy rs c row base (opening.Ready m len) = Ready rs c row base m len
+-- what is told of a load
+abbrev pub LoadsAs : List Parsed → Answer Project → Result Loaded Refusal → Type 0
+LoadsAs rs a (Err r) = a ≡ refusal r
+LoadsAs rs a (Ok l) = Ready rs a l
 
--- what is told of a record that is opened
-pub record Opens (rs : List Parsed) (c : ℕ) (row base : List ℕ) (r : Opening) : Type 0 where
-  pub told : OpenedBy rs c row base r
+-- what is told of an owner
+abbrev pub OwnerAs : Outcome → Result Numbers Refusal → Type 0
+OwnerAs o (Err r) = o ≡ refusal r
+OwnerAs o (Ok n) = numbers_of n ≡ returned o

@@ -1,8 +1,9 @@
-use Rattle.std.proofs.Common.{◌≡◌, ◌-◌, ◌≤◌, length}
+use Prim.Native.Nat.{◌≤◌}
+use lib.ListN.{length}
 use Rattle.asking.proofs.answer_lines.Given as goal
 
 abbrev pub invariant-loop-i : goal.invariant-loop-i
-invariant-loop-i g l = (length l.out ≡ length l.initial.out) × (l.at ≤ length l.input)
+invariant-loop-i g l = length l.rest ≤ length l.fn.input
 
 abbrev pub decreases-loop-i : goal.decreases-loop-i
-decreases-loop-i g l = length l.input - l.at
+decreases-loop-i g l = length l.rest

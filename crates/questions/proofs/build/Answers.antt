@@ -1,25 +1,26 @@
-use mathlib.Core.Path.{sym, ap, ◌∙◌}
+use mathlib.Core.Path.{refl}
 use lib.ListN.{length}
-use Rattle.records.specs.Paths.{found_number}
-use Rattle.records.proofs.Paths.{locate_within}
-use Rattle.book.specs.Find.{locate}
-use Rattle.rows.specs.Records.{records_of}
-use Rattle.questions.specs.Replies.{build_of}
-use Rattle.replies.proofs.Replies.{kept_told, told_as}
-use Rattle.questions.proofs.Replies.{build_steps, asked_not, asked_missing, asked_found}
+use Rattle.std.proofs.lemmas.Result.{err_from_is_err_and}
+use Rattle.replies.proofs.Replies.{told_as}
+use Rattle.rows.specs.Checked.{records_in}
+use Rattle.questions.proofs.Replies.{build_refused, build_accepted, then_refused, then_ready}
 use Rattle.questions.proofs.build.Goals as goal
 
-pub returns-then-not-is_asked_path : goal.returns-then-not-is_asked_path
-returns-then-not-is_asked_path c = let a = c.args in kept_told _ _ _ _ _ (build_steps (records_of a.commands.now a.text.now) (length a.out.now) a.path.now ∙ asked_not (records_of a.commands.now a.text.now) a.path.now (build_of (records_of a.commands.now a.text.now) (length a.out.now)) _ (sym c.is_asked_path.ensures ∙ c.if-not-is_asked_path.true)) c.refuse.ensures
+pub returns-in_err-book : goal.returns-in_err-book
+returns-in_err-book c =
+    let a = c.args in
+    let p = err_from_is_err_and c.from_residual.result c.from_residual.ensures.1 in
+    rw (p.1, p.2) (build_refused a.commands.now a.text.now a.path.now (length a.out.now) _ c.in_err-book.ensures, refl)
 
-pub locate-requires : goal.locate-requires
-locate-requires c = (c.requires.1.starts_there, c.requires.1.lens_there)
+pub returns-in_err-row : goal.returns-in_err-row
+returns-in_err-row c =
+    let a = c.args in
+    let accepted = build_accepted a.commands.now a.text.now a.path.now (length a.out.now) _ c.in_ok-book.ensures _ c.is_asked_path.ensures in
+    let p = err_from_is_err_and c.from_residual-in_err-row.result c.from_residual-in_err-row.ensures.1 in
+    rw (p.1, p.2) (then_refused _ (records_in c.in_ok-book.book) _ _ accepted _ c.in_err-row.ensures, refl)
 
-pub returns-in-Nothing : goal.returns-in-Nothing
-returns-in-Nothing c = let a = c.args in kept_told _ _ _ _ _ (build_steps (records_of a.commands.now a.text.now) (length a.out.now) a.path.now ∙ asked_missing (records_of a.commands.now a.text.now) a.path.now (build_of (records_of a.commands.now a.text.now) (length a.out.now)) _ (sym c.is_asked_path.ensures ∙ c.if-not-is_asked_path.false) (found_number c.locate.result) (c.locate.ensures ∙ ap (λ t. locate t a.path.now) c.requires.1.paths) (ap found_number c.in-Nothing.is)) c.refuse-in-Nothing.ensures
-
-pub build_record-requires : goal.build_record-requires
-build_record-requires c = let a = c.args in (c.requires.0, (c.requires.1, locate_within a.text.now a.starts.now a.lens.now a.n a.path.now _ (sym (ap found_number c.in-At.is) ∙ c.locate.ensures)))
-
-pub returns-in-At : goal.returns-in-At
-returns-in-At c = let a = c.args in told_as _ _ _ _ _ (build_steps (records_of a.commands.now a.text.now) (length a.out.now) a.path.now ∙ asked_found (records_of a.commands.now a.text.now) a.path.now (build_of (records_of a.commands.now a.text.now) (length a.out.now)) _ (sym c.is_asked_path.ensures ∙ c.if-not-is_asked_path.false) (found_number c.locate.result) (c.locate.ensures ∙ ap (λ t. locate t a.path.now) c.requires.1.paths) _ (ap found_number c.in-At.is)) c.build_record.ensures
+pub returns : goal.returns
+returns c =
+    let a = c.args in
+    let accepted = build_accepted a.commands.now a.text.now a.path.now (length a.out.now) _ c.in_ok-book.ensures _ c.is_asked_path.ensures in
+    told_as _ _ _ _ _ (then_ready _ (records_in c.in_ok-book.book) _ _ accepted _ c.in_ok-row.ensures) c.write_listing.ensures

@@ -1,20 +1,36 @@
-use mathlib.Core.Path.{sym, ap, ◌∙◌}
-use Rattle.rows.specs.Records.{records_of}
-use Rattle.questions.proofs.Replies.{owner_not, owner_refuses, owner_nobody, owner_found}
-use Rattle.replies.specs.Replies.{returned}
+use mathlib.Core.Path.{ap, ◌∙◌}
+use Rattle.std.specs.Prelude.{Ok}
+use Rattle.std.proofs.lemmas.Result.{err_from_is_err_and}
+use Rattle.rows.specs.Checked.{records_in}
+use Rattle.questions.proofs.Replies.{owner_refused, owner_not, owner_refuses, owner_nobody, owner_found}
 use Rattle.questions.proofs.owner.Goals as goal
 
+pub returns-in_err-book : goal.returns-in_err-book
+returns-in_err-book c =
+    let a = c.args in
+    let p = err_from_is_err_and c.from_residual.result c.from_residual.ensures.1 in
+    rw (p.1, p.2) (owner_refused a.commands.now a.text.now a.path.now _ c.in_err-book.ensures)
+
 pub returns-then-not-is_asked_path : goal.returns-then-not-is_asked_path
-returns-then-not-is_asked_path c = let a = c.args in c.refuse.ensures ∙ sym (ap returned (owner_not (records_of a.commands.now a.text.now) a.path.now _ c.is_asked_path.ensures c.if-not-is_asked_path.true))
+returns-then-not-is_asked_path c =
+    let a = c.args in
+    owner_not a.commands.now a.text.now a.path.now (records_in c.in_ok-book.book) c.in_ok-book.ensures _ c.is_asked_path.ensures c.if-not-is_asked_path.true
 
-pub find_owner-requires : goal.find_owner-requires
-find_owner-requires c = c.requires
+pub returns-in_err-owner : goal.returns-in_err-owner
+returns-in_err-owner c =
+    let a = c.args in
+    let p = err_from_is_err_and c.from_residual-in_err-owner.result c.from_residual-in_err-owner.ensures.1 in
+    rw (p.1, p.2) (owner_refuses a.commands.now a.text.now a.path.now (records_in c.in_ok-book.book) c.in_ok-book.ensures _ c.is_asked_path.ensures c.if-not-is_asked_path.false
+    _ c.find_owner.ensures _ c.in_err-owner.was)
 
-pub returns-in-Refused : goal.returns-in-Refused
-returns-in-Refused c = let a = c.args in c.refuse-in-Refused.ensures ∙ sym (ap returned (owner_refuses (records_of a.commands.now a.text.now) a.path.now _ c.is_asked_path.ensures c.if-not-is_asked_path.false _ c.find_owner.ensures _ _ c.in-Refused.is))
+pub returns-in-Some : goal.returns-in-Some
+returns-in-Some c =
+    let a = c.args in
+    owner_found a.commands.now a.text.now a.path.now (records_in c.in_ok-book.book) c.in_ok-book.ensures _ c.is_asked_path.ensures c.if-not-is_asked_path.false
+    _ c.find_owner.ensures _ (c.in_ok-owner.was ∙ ap Ok c.in-Some.is) _ c.give.ensures
 
-pub returns-in-Nobody : goal.returns-in-Nobody
-returns-in-Nobody c = let a = c.args in owner_nobody (records_of a.commands.now a.text.now) a.path.now _ c.is_asked_path.ensures c.if-not-is_asked_path.false _ c.find_owner.ensures c.in-Nobody.is _ c.give.ensures
-
-pub returns-in-By : goal.returns-in-By
-returns-in-By c = let a = c.args in owner_found (records_of a.commands.now a.text.now) a.path.now _ c.is_asked_path.ensures c.if-not-is_asked_path.false _ c.find_owner.ensures _ _ c.in-By.is _ c.give-in-By.ensures
+pub returns-in-None : goal.returns-in-None
+returns-in-None c =
+    let a = c.args in
+    owner_nobody a.commands.now a.text.now a.path.now (records_in c.in_ok-book.book) c.in_ok-book.ensures _ c.is_asked_path.ensures c.if-not-is_asked_path.false
+    _ c.find_owner.ensures (c.in_ok-owner.was ∙ ap Ok c.in-None.is) _ c.give-in-None.ensures

@@ -1,25 +1,47 @@
-use mathlib.Core.Path.{sym, ap, ◌∙◌}
+use mathlib.Core.Path.{refl, sym, ◌∙◌}
+use native.Mathlib.Omega.{arith}
 use lib.ListN.{length}
-use Rattle.records.specs.Paths.{found_number}
-use Rattle.records.proofs.Paths.{locate_within}
-use Rattle.book.specs.Find.{locate}
-use Rattle.rows.specs.Records.{records_of}
-use Rattle.questions.specs.Replies.{paths_from}
-use Rattle.replies.proofs.Replies.{kept_told, told_as}
-use Rattle.questions.proofs.Replies.{asked_not, asked_missing, asked_found, specifier_short, directory_short}
+use Rattle.std.specs.Prelude.{option_copied}
+use Rattle.std.proofs.lemmas.Result.{err_from_is_err_and}
+use Rattle.replies.proofs.Replies.{told_as}
+use Rattle.rows.specs.Checked.{records_in}
+use Rattle.questions.proofs.Replies.{paths_refused, paths_accepted, then_refused, then_ready, ready_asked, specifier_short, directory_short}
 use Rattle.questions.proofs.paths.Goals as goal
 
-pub returns-then-not-is_asked : goal.returns-then-not-is_asked
-returns-then-not-is_asked c = kept_told _ _ _ _ _ (asked_not (records_of c.args.commands.now c.args.text.now) c.args.path.now (paths_from c.args.tried c.args.directory.now c.args.specifier.now (length c.args.out.now)) _ (sym c.is_asked.ensures ∙ c.if-not-is_asked.true)) c.refuse.ensures
+pub returns-in_err-book : goal.returns-in_err-book
+returns-in_err-book c =
+    let a = c.args in
+    let p = err_from_is_err_and c.from_residual.result c.from_residual.ensures.1 in
+    rw (p.1, p.2) (paths_refused a.commands.now a.text.now a.path.now a.specifier.now (length a.out.now) (option_copied a.directory) _ c.in_err-book.ensures, refl)
 
-pub locate-requires : goal.locate-requires
-locate-requires c = (c.requires.1.starts_there, c.requires.1.lens_there)
+pub returns-in_err-row : goal.returns-in_err-row
+returns-in_err-row c =
+    let a = c.args in
+    let accepted = paths_accepted a.commands.now a.text.now a.path.now a.specifier.now (length a.out.now) (option_copied a.directory) _ c.in_ok-book.ensures _ c.is_asked.ensures in
+    let p = err_from_is_err_and c.from_residual-in_err-row.result c.from_residual-in_err-row.ensures.1 in
+    rw (p.1, p.2) (then_refused _ (records_in c.in_ok-book.book) _ _ accepted _ c.in_err-row.ensures, refl)
 
-pub returns-in-Nothing : goal.returns-in-Nothing
-returns-in-Nothing c = kept_told _ _ _ _ _ (asked_missing (records_of c.args.commands.now c.args.text.now) c.args.path.now (paths_from c.args.tried c.args.directory.now c.args.specifier.now (length c.args.out.now)) _ (sym c.is_asked.ensures ∙ c.if-not-is_asked.false) (found_number c.locate.result) (c.locate.ensures ∙ ap (λ t. locate t c.args.path.now) c.requires.1.paths) (ap found_number c.in-Nothing.is)) c.refuse-in-Nothing.ensures
+pub write_paths-requires-clause-asks : goal.write_paths-requires-clause-asks
+write_paths-requires-clause-asks c =
+    let a = c.args in
+    let ready = c.in_ok-row.ensures in
+    let asked = sym c.is_asked.ensures ∙ ready_asked _ (records_in c.in_ok-book.book) a.path.now _ ready in
+    record {
+      sound = ready.sound;
+      base_is = c.site_base-base.ensures.value;
+      base_short = c.site_base-base.ensures.short;
+      spec_short = specifier_short a.path.now a.specifier.now (option_copied a.directory) asked;
+      near = omega arith;
+    }
 
-pub paths_record-requires : goal.paths_record-requires
-paths_record-requires c = ((c.requires.0, (c.requires.1, locate_within c.args.text.now c.args.starts.now c.args.lens.now c.args.n c.args.path.now _ (sym (ap found_number c.in-At.is) ∙ c.locate.ensures))), (specifier_short c.args.tried c.args.path.now c.args.directory.now c.args.specifier.now _ c.is_asked.ensures c.if-not-is_asked.false, directory_short c.args.tried c.args.path.now c.args.directory.now c.args.specifier.now _ c.is_asked.ensures c.if-not-is_asked.false))
+pub write_paths-requires-clause-directory : goal.write_paths-requires-clause-directory
+write_paths-requires-clause-directory c =
+    let a = c.args in
+    let asked = sym c.is_asked.ensures ∙ ready_asked _ (records_in c.in_ok-book.book) a.path.now _ c.in_ok-row.ensures in
+    directory_short a.path.now a.specifier.now a.directory asked
 
-pub returns-in-At : goal.returns-in-At
-returns-in-At c = told_as _ _ _ _ _ (asked_found (records_of c.args.commands.now c.args.text.now) c.args.path.now (paths_from c.args.tried c.args.directory.now c.args.specifier.now (length c.args.out.now)) _ (sym c.is_asked.ensures ∙ c.if-not-is_asked.false) (found_number c.locate.result) (c.locate.ensures ∙ ap (λ t. locate t c.args.path.now) c.requires.1.paths) _ (ap found_number c.in-At.is)) c.paths_record.ensures
+pub returns : goal.returns
+returns c =
+    let a = c.args in
+    let accepted = paths_accepted a.commands.now a.text.now a.path.now a.specifier.now (length a.out.now) (option_copied a.directory) _ c.in_ok-book.ensures _ c.is_asked.ensures in
+    told_as _ _ _ _ _ (then_ready _ (records_in c.in_ok-book.book) _ _ accepted _ c.in_ok-row.ensures) c.write_paths.ensures

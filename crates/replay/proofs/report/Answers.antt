@@ -9,8 +9,8 @@ lasts n = sym (length-replicate {A = ℕ} n 0)
 pub slice_bounds-read_file-end : goal.slice_bounds-read_file-end
 slice_bounds-read_file-end g c = lasts 524288
 
-pub slice_bounds-buf-end : goal.slice_bounds-buf-end
-slice_bounds-buf-end g c = c.in-Ok.ensures.0
+pub slice_bounds-buffer-end : goal.slice_bounds-buffer-end
+slice_bounds-buffer-end g c = c.in-Ok.ensures.0
 
 pub slice_bounds-replay-end : goal.slice_bounds-replay-end
 slice_bounds-replay-end g c = c.in-Ok.ensures.1
