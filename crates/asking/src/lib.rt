@@ -46,18 +46,25 @@ pub fn question_of(line: &[u8]) -> Option<Question> {
     Some(question)
 }
 
+// A book: its commands, and the text that their strings are parts of.
+#[derive(Clone, Copy)]
+pub struct Book<'a> {
+    pub commands: &'a [u8],
+    pub text: &'a [u8],
+}
+
 // Asks a question about a book. What has an output writes it to the one that is lent.
-pub fn ask(question: Question, commands: &[u8], text: &[u8], out: &mut [u8]) -> Numbers
-    ensures { Answers question.entry commands.now text.now result out.old out.new }
+pub fn ask(question: Question, book: &Book, out: &mut [u8]) -> Numbers
+    ensures { Answers question.entry book.now.commands.now book.now.text.now result out.old out.new }
 {
     match question {
-        Question::Build(path) => tsconfig_build(commands, text, path, out),
-        Question::Owner(path) => tsconfig_owner(commands, text, path),
+        Question::Build(path) => tsconfig_build(book.commands, book.text, path, out),
+        Question::Owner(path) => tsconfig_owner(book.commands, book.text, path),
         Question::Candidates(path, specifier) => {
-            tsconfig_candidates(commands, text, path, specifier, out)
+            tsconfig_candidates(book.commands, book.text, path, specifier, out)
         }
         Question::Tries(path, directory, specifier) => {
-            tsconfig_tries(commands, text, path, directory, specifier, out)
+            tsconfig_tries(book.commands, book.text, path, directory, specifier, out)
         }
     }
 }
@@ -90,7 +97,7 @@ fn say_list(rt: &(impl Print + Eprint), name: &[u8], count: u64, list: &[u8]) {
 }
 
 // Answers a line.
-fn answer(rt: &(impl Print + Eprint), commands: &[u8], text: &[u8], line: &[u8], out: &mut [u8]) {
+fn answer(rt: &(impl Print + Eprint), book: &Book, line: &[u8], out: &mut [u8]) {
     let Some(question) = question_of(line) else {
         say_line(
             rt,
@@ -98,7 +105,7 @@ fn answer(rt: &(impl Print + Eprint), commands: &[u8], text: &[u8], line: &[u8],
         );
         return;
     };
-    let numbers = ask(question, commands, text, out);
+    let numbers = ask(question, book, out);
     if numbers.number != 0 {
         say_two(rt, b"refused", numbers.number, numbers.place);
         return;
@@ -117,18 +124,12 @@ fn answer(rt: &(impl Print + Eprint), commands: &[u8], text: &[u8], line: &[u8],
 }
 
 // Answers each line of an input that has its end. Gives how many bytes follow the last of them.
-fn answer_lines(
-    rt: &(impl Print + Eprint),
-    commands: &[u8],
-    text: &[u8],
-    input: &[u8],
-    out: &mut [u8],
-) -> usize
+fn answer_lines(rt: &(impl Print + Eprint), book: &Book, input: &[u8], out: &mut [u8]) -> usize
     ensures { result ≤ length input.now }
 {
     let mut rest = input;
     while let Some(i) = find_byte(rest, LINE_END) {
-        answer(rt, commands, text, upto(rest, i), out);
+        answer(rt, book, upto(rest, i), out);
         rest = from(rest, i + 1);
     }
     rest.len()
@@ -144,8 +145,7 @@ pub struct Held {
 // Answers the lines that have their end in an input, after the end of the line that is passed over, if one is. Gives what waits at its end.
 fn answer_input(
     rt: &(impl Print + Eprint),
-    commands: &[u8],
-    text: &[u8],
+    book: &Book,
     input: &[u8],
     passing: bool,
     out: &mut [u8],
@@ -163,7 +163,7 @@ fn answer_input(
         }
     };
     Held {
-        count: answer_lines(rt, commands, text, lines, out),
+        count: answer_lines(rt, book, lines, out),
         passing: false,
     }
 }
@@ -197,8 +197,7 @@ fn read_more(rt: &impl Eprint, input: &mut impl Read, buffer: &mut [u8], at: usi
 // buffer is too long, and is passed over.
 fn take_in(
     rt: &(impl Print + Eprint),
-    commands: &[u8],
-    text: &[u8],
+    book: &Book,
     buffer: &mut [u8],
     end: usize,
     passing: bool,
@@ -207,7 +206,7 @@ fn take_in(
     requires { end ≤ length buffer.old }
     ensures { result.count ≤ length buffer.old }
 {
-    let held = answer_input(rt, commands, text, upto(buffer, end), passing, out);
+    let held = answer_input(rt, book, upto(buffer, end), passing, out);
     if held.count == buffer.len() {
         say_line(rt, b"line too long: at most 4095 bytes");
         return Held {
@@ -223,8 +222,7 @@ fn take_in(
 fn turn(
     rt: &(impl Print + Eprint),
     input: &mut impl Read,
-    commands: &[u8],
-    text: &[u8],
+    book: &Book,
     buffer: &mut [u8],
     held: Held,
     out: &mut [u8],
@@ -236,29 +234,23 @@ fn turn(
     let got = read_more(rt, input, buffer, count);
     if got == 0 {
         if 0 < count {
-            answer(rt, commands, text, upto(buffer, count), out);
+            answer(rt, book, upto(buffer, count), out);
         }
         return None;
     }
-    Some(take_in(rt, commands, text, buffer, count + got, held.passing, out))
+    Some(take_in(rt, book, buffer, count + got, held.passing, out))
 }
 
 // Answers the lines of standard input. They are read through the lent buffer. Nothing says that an input ends, so the turns are counted, up to
 // a number that no run reaches.
-fn answer_all(
-    rt: &(impl Input + Print + Eprint),
-    commands: &[u8],
-    text: &[u8],
-    buffer: &mut [u8],
-    out: &mut [u8],
-) {
+fn answer_all(rt: &(impl Input + Print + Eprint), book: &Book, buffer: &mut [u8], out: &mut [u8]) {
     let mut input = rt.reader();
     let mut held = Held {
         count: 0,
         passing: false,
     };
     for _ in 0..u64::MAX {
-        match turn(rt, &mut input, commands, text, buffer, held, out) {
+        match turn(rt, &mut input, book, buffer, held, out) {
             Some(next) => held = next,
             None => return,
         }
@@ -283,10 +275,10 @@ pub fn load(rt: &(impl Files + Eprint), name: &[u8], room: &mut [u8]) -> Option<
 }
 
 // Answers the lines of standard input about a book, with room for every answer.
-fn answer_stdin(rt: &(impl Input + Print + Eprint), commands: &[u8], text: &[u8]) {
+fn answer_stdin(rt: &(impl Input + Print + Eprint), book: &Book) {
     let mut buffer = [0u8; 4096];
     let mut out = [0u8; 1048576];
-    answer_all(rt, commands, text, &mut buffer, &mut out);
+    answer_all(rt, book, &mut buffer, &mut out);
 }
 
 // Answers the lines of standard input about the book of the current folder. A book that is too large is read one byte further than is allowed,
@@ -300,5 +292,9 @@ pub fn run(rt: &(impl Files + Input + Print + Eprint)) {
     let Some(n) = load(rt, b"book.txt", &mut text) else {
         return;
     };
-    answer_stdin(rt, upto(&commands, m), upto(&text, n));
+    let book = Book {
+        commands: upto(&commands, m),
+        text: upto(&text, n),
+    };
+    answer_stdin(rt, &book);
 }

@@ -18,17 +18,8 @@ use book::{EXCLUDE_ITEM, FILE, INCLUDE_ITEM};
 use matching::{is_allowed, is_file, is_item_matched, is_outside};
 use path::lies_under;
 use record::Record;
-use rows::CheckedBook;
+use rows::{CheckedBook, places};
 use sites::site_dir;
-
-// The places of a row that the test reads: the suppliers of the three lists and of allowJs.
-const FILES: usize = 0;
-
-const INCLUDE: usize = 1;
-
-const EXCLUDE: usize = 2;
-
-const ALLOW_JS: usize = 16;
 
 // The flag id of allowJs.
 const ALLOW_JS_ID: u8 = 8;
@@ -60,7 +51,7 @@ impl Built<'_> {
     fn is_in_files(&self, path: &[u8]) -> bool
         ensures { result ≡ named_file path.now ((site_in self.now.book.now self.now.row.now).config.named files) }
     {
-        match self.book.supplier(self.row, FILES) {
+        match self.book.supplier(self.row, places::FILES) {
             Some(supplier) => supplier.strings(FILE).any(|s| is_file(path, self.dir, s)),
             None => false,
         }
@@ -70,7 +61,7 @@ impl Built<'_> {
     fn is_below(&self, path: &[u8]) -> bool
         ensures { result ≡ included (site_in self.now.book.now self.now.row.now) path.now None }
     {
-        match self.book.supplier(self.row, FILES) {
+        match self.book.supplier(self.row, places::FILES) {
             Some(_) => false,
             None => lies_under(path, self.dir) && is_allowed(self.js, path),
         }
@@ -80,7 +71,7 @@ impl Built<'_> {
     fn is_included(&self, path: &[u8]) -> bool
         ensures { result ≡ included (site_in self.now.book.now self.now.row.now) path.now ((site_in self.now.book.now self.now.row.now).config.named include) }
     {
-        match self.book.supplier(self.row, INCLUDE) {
+        match self.book.supplier(self.row, places::INCLUDE) {
             Some(supplier) => self.is_some_matched(&supplier, INCLUDE_ITEM, path),
             None => self.is_below(path),
         }
@@ -90,7 +81,7 @@ impl Built<'_> {
     fn is_excluded(&self, path: &[u8]) -> bool
         ensures { result ≡ excluded (site_in self.now.book.now self.now.row.now) path.now ((site_in self.now.book.now self.now.row.now).config.named exclude) }
     {
-        match self.book.supplier(self.row, EXCLUDE) {
+        match self.book.supplier(self.row, places::EXCLUDE) {
             Some(supplier) => self.is_some_matched(&supplier, EXCLUDE_ITEM, path),
             None => false,
         }
@@ -102,7 +93,7 @@ pub fn allow_js(book: &CheckedBook, row: &[u8]) -> bool
     requires { Row (records_in book.now) row.now }
     ensures { result ≡ allow_js (site_in book.now row.now).config }
 {
-    match book.supplier(row, ALLOW_JS) {
+    match book.supplier(row, places::ALLOW_JS) {
         Some(supplier) => supplier.flag(ALLOW_JS_ID).unwrap_or(false),
         None => false,
     }

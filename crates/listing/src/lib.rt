@@ -16,7 +16,7 @@ use emit::Output;
 use fields::{put_list, put_mapping, put_place, put_roots, put_url};
 use lines::{put_references, put_row};
 use options::put_options;
-use rows::{CheckedBook, OWN_PLACE};
+use rows::{CheckedBook, places};
 
 // The fields other than the options stand at the places 0 to 7 of a row.
 
@@ -28,10 +28,22 @@ fn put_lists(out: &mut Output, book: &CheckedBook, row: &[u8], dir: &[u8])
     requires room { Room out.old.at (lists_part (site_of (records_in book.now) row.now).config) }
     ensures { Puts (lists_part (site_of (records_in book.now) row.now).config) out.old out.new }
 {
-    put_list(out, book.supplier(row, 0), FILE, b"files", dir);
-    put_list(out, book.supplier(row, 1), INCLUDE_ITEM, b"include", dir);
-    put_list(out, book.supplier(row, 2), EXCLUDE_ITEM, b"exclude", dir);
-    put_url(out, book.supplier(row, 3), dir);
+    put_list(out, book.supplier(row, places::FILES), FILE, b"files", dir);
+    put_list(
+        out,
+        book.supplier(row, places::INCLUDE),
+        INCLUDE_ITEM,
+        b"include",
+        dir,
+    );
+    put_list(
+        out,
+        book.supplier(row, places::EXCLUDE),
+        EXCLUDE_ITEM,
+        b"exclude",
+        dir,
+    );
+    put_url(out, book.supplier(row, places::BASE_URL), dir);
 }
 
 // Writes what follows the references.
@@ -42,11 +54,17 @@ fn put_places(out: &mut Output, book: &CheckedBook, row: &[u8], dir: &[u8])
     requires room { Room out.old.at (places_part (site_of (records_in book.now) row.now).config) }
     ensures { Puts (places_part (site_of (records_in book.now) row.now).config) out.old out.new }
 {
-    put_roots(out, book.supplier(row, 5), dir);
-    put_place(out, book.supplier(row, 6), OUT_DIR, b"outDir", dir);
+    put_roots(out, book.supplier(row, places::ROOT_DIRS), dir);
     put_place(
         out,
-        book.supplier(row, 7),
+        book.supplier(row, places::OUT_DIR),
+        OUT_DIR,
+        b"outDir",
+        dir,
+    );
+    put_place(
+        out,
+        book.supplier(row, places::DECLARATION_DIR),
         DECLARATION_DIR,
         b"declarationDir",
         dir,
@@ -63,13 +81,13 @@ pub fn put_listing(out: &mut Output, book: &CheckedBook, row: &[u8], base: &[u8]
     requires start { out.old.at ≤ 65536 }
     ensures { Puts (listing (find.record_at (records_in book.now) (number_of row.now)).references (site_of (records_in book.now) row.now).config) out.old out.new }
 {
-    let Some(own) = book.supplier(row, OWN_PLACE) else {
+    let Some(own) = book.supplier(row, places::OWN) else {
         return;
     };
     let dir = own.dir();
     put_lists(out, book, row, dir);
     put_row(out, b"base", base);
-    put_mapping(out, book.supplier(row, 4), dir, base);
+    put_mapping(out, book.supplier(row, places::PATHS), dir, base);
     put_references(out, &own);
     put_places(out, book, row, dir);
 }

@@ -15,15 +15,10 @@ use choice::{best_key, equal_key};
 use emit::Output;
 use keys::key_match;
 use record::Record;
-use rows::CheckedBook;
+use rows::{CheckedBook, places};
 use sites::site_dir;
 use targets::{put_read, put_targets};
 use text::DOT;
-
-// Where a row has the record that names baseUrl, and the one that names paths.
-pub const BASE_URL_PLACE: usize = 3;
-
-const PATHS_PLACE: usize = 4;
 
 // Writes what the `paths` of the record give for the specifier, and gives how many they are: the targets of an equal key as they are built, else
 // those of the best wildcard, filled.
@@ -68,7 +63,7 @@ pub fn put_aliases(
     if starts_dot(spec) {
         return 0;
     }
-    match book.supplier(row, PATHS_PLACE) {
+    match book.supplier(row, places::PATHS) {
         Some(record) => put_mapped(out, &record, dir, base, spec),
         None => 0,
     }
@@ -90,7 +85,7 @@ pub fn put_candidates(
     if 0 < count {
         return count;
     }
-    match book.supplier(row, BASE_URL_PLACE) {
+    match book.supplier(row, places::BASE_URL) {
         Some(_) => {
             put_read(out, base, spec);
             1

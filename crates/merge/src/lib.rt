@@ -4,15 +4,10 @@
 ghost use Rattle.std.specs.Prelude.{◌≡◌};
 ghost use Rattle.rows.specs.Merge.{nearer, base_by, merged_row};
 
-use rows::{ABSENT, BASE_PLACE, ROW};
+use rows::{ABSENT, ROW, places};
 
 // How many places of a row are fields'; after these come the place of the base and that of the row's own record.
 const FIELDS: usize = 26;
-
-// The places of the fields that say where the base is.
-const BASE_URL: usize = 3;
-
-const PATHS: usize = 4;
 
 // The nearer's supplier, if it has one, else the other's.
 #[tactic(auto, unfolding(rows::specs::Merge::nearer))]
@@ -41,14 +36,14 @@ pub fn merge_row(row: &mut [u8; ROW], far: &[u8; ROW])
     ensures { row.new ≡ merged_row row.old far.now }
 {
     let base = pick_base(
-        row[BASE_URL],
-        far[BASE_URL],
-        row[PATHS],
-        row[BASE_PLACE],
-        far[BASE_PLACE],
+        row[places::BASE_URL],
+        far[places::BASE_URL],
+        row[places::PATHS],
+        row[places::BASE],
+        far[places::BASE],
     );
     for i in 0..FIELDS {
         row[i] = pick(row[i], far[i]);
     }
-    row[BASE_PLACE] = base;
+    row[places::BASE] = base;
 }

@@ -12,12 +12,7 @@ ghost use Rattle.options.specs.Options.{flag_at, text_at, options_part};
 use emit::Output;
 use lines::put_value;
 use record::Record;
-use rows::CheckedBook;
-
-// The places in a row of suppliers at which the flags and the text options begin.
-const FLAGS: usize = 8;
-
-const TEXTS: usize = 19;
+use rows::{CheckedBook, places};
 
 // Writes an id in decimal.
 fn put_decimal(out: &mut Output, id: u8)
@@ -80,9 +75,9 @@ pub fn put_options(out: &mut Output, book: &CheckedBook, row: &[u8])
     ensures { Puts (options_part (site_of (records_in book.now) row.now).config) out.old out.new }
 {
     for id in 0..11u8 {
-        put_flag(out, book.supplier(row, FLAGS + usize::from(id)), id);
+        put_flag(out, book.supplier(row, places::FLAGS + usize::from(id)), id);
     }
     for id in 0..7u8 {
-        put_text_option(out, book.supplier(row, TEXTS + usize::from(id)), id);
+        put_text_option(out, book.supplier(row, places::TEXTS + usize::from(id)), id);
     }
 }

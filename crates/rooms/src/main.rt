@@ -6,7 +6,7 @@
 ghost use Rattle.std.specs.Prelude.{◌<◌, ◌≤◌, length};
 
 use asked::{fields, fill, first_field, is_kept, other_fields};
-use asking::{Question, ask, load, question_of, say, say_number};
+use asking::{Book, Question, ask, load, question_of, say, say_number};
 use replies::Numbers;
 use text::{from, part_before, upto};
 
@@ -32,8 +32,7 @@ fn asked_of(line: &[u8]) -> Question {
 // A question about a book.
 #[derive(Clone, Copy)]
 struct Case<'a> {
-    commands: &'a [u8],
-    text: &'a [u8],
+    book: Book<'a>,
     question: Question<'a>,
 }
 
@@ -43,12 +42,12 @@ impl<'a> Case<'a> {
         requires { size ≤ length room.old }
     {
         fill(room);
-        ask(self.question, self.commands, self.text, &mut room[..size])
+        ask(self.question, &self.book, &mut room[..size])
     }
 
     // Whether s is the whole answer that is given with more room.
     fn is_answer(&self, s: &[u8], ample: &mut [u8]) -> bool {
-        let numbers = ask(self.question, self.commands, self.text, ample);
+        let numbers = ask(self.question, &self.book, ample);
         numbers.bytes == s.len() as u64 && s == upto(ample, s.len())
     }
 }
@@ -142,8 +141,7 @@ fn check_need(
 
 fn check_line(
     rt: &(impl Print + Eprint),
-    commands: &[u8],
-    text: &[u8],
+    book: &Book,
     line: &[u8],
     room: &mut [u8],
     ample: &mut [u8],
@@ -151,8 +149,7 @@ fn check_line(
     say(rt, line);
     say(rt, b":");
     let case = Case {
-        commands,
-        text,
+        book: *book,
         question: asked_of(line),
     };
     let numbers = case.ask_within(room, 0);
@@ -165,13 +162,13 @@ fn check_line(
 }
 
 // Checks a list of lines about a book.
-fn check_all(rt: &(impl Print + Eprint), commands: &[u8], text: &[u8], list: &[u8]) {
+fn check_all(rt: &(impl Print + Eprint), book: &Book, list: &[u8]) {
     let mut room = [0u8; 8192];
     let mut ample = [0u8; 65536];
     let mut rest = list;
     while !rest.is_empty() {
         let line = part_before(rest, LINE_END);
-        check_line(rt, commands, text, line, &mut room, &mut ample);
+        check_line(rt, book, line, &mut room, &mut ample);
         rest = from(rest, line.len() + 1);
     }
 }
@@ -189,5 +186,9 @@ fn main(rt: HostRuntime) {
     let Some(k) = load(&rt, b"questions", &mut list) else {
         return;
     };
-    check_all(&rt, upto(&commands, m), upto(&text, n), upto(&list, k));
+    let book = Book {
+        commands: upto(&commands, m),
+        text: upto(&text, n),
+    };
+    check_all(&rt, &book, upto(&list, k));
 }

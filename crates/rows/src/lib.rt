@@ -15,17 +15,13 @@ use book::{
 use record::Record;
 use records::PathTable;
 
-// Stands for no record: there are at most 64.
+pub mod places;
+
+// Stands for no record: there are at most 64. An Option for each of 28 places would be twice as long, and rows are copied at each merge.
 pub const ABSENT: u8 = 255;
 
 // How many places a row has.
 pub const ROW: usize = 28;
-
-// The place of the record that the base is of.
-pub const BASE_PLACE: usize = 26;
-
-// The place of the row's own record.
-pub const OWN_PLACE: usize = 27;
 
 // An accepted book: its commands, where each record begins in them, and the records' paths, with the text.
 #[derive(Clone, Copy)]
@@ -44,16 +40,16 @@ fn slot_of(c: Cmd) -> Option<usize>
     ensures inside { IfSome result (λ k. k < 26) }
 {
     match c.op {
-        FILES => Some(0),
-        INCLUDE => Some(1),
-        EXCLUDE => Some(2),
-        BASE_URL => Some(3),
-        PATHS => Some(4),
-        ROOT_DIRS => Some(5),
-        OUT_DIR => Some(6),
-        DECLARATION_DIR => Some(7),
-        FLAG if c.id < 11 => Some(8 + usize::from(c.id)),
-        TEXT_OPTION if c.id < 7 => Some(19 + usize::from(c.id)),
+        FILES => Some(places::FILES),
+        INCLUDE => Some(places::INCLUDE),
+        EXCLUDE => Some(places::EXCLUDE),
+        BASE_URL => Some(places::BASE_URL),
+        PATHS => Some(places::PATHS),
+        ROOT_DIRS => Some(places::ROOT_DIRS),
+        OUT_DIR => Some(places::OUT_DIR),
+        DECLARATION_DIR => Some(places::DECLARATION_DIR),
+        FLAG if c.id < 11 => Some(places::FLAGS + usize::from(c.id)),
+        TEXT_OPTION if c.id < 7 => Some(places::TEXTS + usize::from(c.id)),
         _ => None,
     }
 }
@@ -80,8 +76,8 @@ pub fn own_row(commands: &[u8], rec: usize, c: u8) -> [u8; ROW]
 {
     let mut row = [ABSENT; ROW];
     mark_fields(commands, rec, c, &mut row);
-    row[BASE_PLACE] = c;
-    row[OWN_PLACE] = c;
+    row[places::BASE] = c;
+    row[places::OWN] = c;
     row
 }
 

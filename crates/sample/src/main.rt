@@ -6,18 +6,10 @@
 ghost use Rattle.std.specs.Prelude.{◌<◌, ◌≤◌, length};
 
 use asked::{fill, is_kept};
-use asking::{Question, ask, load, say, say_number};
-use lists::{Tally, byte_at, long_at, word_at};
+use asking::{Book, Question, ask, load, say, say_number};
+use lists::{Tally, long_at, word_at};
 use replies::Numbers;
 use text::{from, upto};
-
-// The letters of the questions; what is none of these is taken for tries.
-
-const BUILD: usize = 0x42;
-
-const CANDIDATES: usize = 0x43;
-
-const OWNER: usize = 0x4F;
 
 // A string, which is a length of two bytes, low first, and its bytes; and what follows it.
 fn split_string(s: &[u8]) -> (&[u8], &[u8])
@@ -27,13 +19,13 @@ fn split_string(s: &[u8]) -> (&[u8], &[u8])
     (upto(from(s, 2), size), from(s, size + 2))
 }
 
-// The question that a letter and the strings at the start of a body make; and what follows them.
-fn split_question(letter: usize, body: &[u8]) -> (Question, &[u8]) {
+// The question that a letter and the strings at the start of a body make; and what follows them. What is no other letter is taken for tries.
+fn split_question(letter: u8, body: &[u8]) -> (Question, &[u8]) {
     let (path, rest) = split_string(body);
     match letter {
-        BUILD => (Question::Build(path), rest),
-        OWNER => (Question::Owner(path), rest),
-        CANDIDATES => {
+        b'B' => (Question::Build(path), rest),
+        b'O' => (Question::Owner(path), rest),
+        b'C' => {
             let (specifier, rest) = split_string(rest);
             (Question::Candidates(path, specifier), rest)
         }
@@ -57,19 +49,13 @@ fn same_numbers(numbers: Numbers, answer: &[u8]) -> bool {
 
 // Whether a question is answered as is listed, by the numbers and by what the room holds then: the room that was lent, the five numbers and the
 // bytes of the answer are listed.
-fn agrees(
-    question: Question,
-    commands: &[u8],
-    text: &[u8],
-    answer: &[u8],
-    room: &mut [u8],
-) -> bool {
+fn agrees(question: Question, book: &Book, answer: &[u8], room: &mut [u8]) -> bool {
     let size = word_at(answer, 0);
     if room.len() < size {
         return false;
     }
     fill(room);
-    let numbers = ask(question, commands, text, &mut room[..size]);
+    let numbers = ask(question, book, &mut room[..size]);
     let bytes = from(answer, 22);
     same_numbers(numbers, answer)
         && upto(room, bytes.len()) == bytes
@@ -85,8 +71,7 @@ fn count(counts: &mut [u64], answer: &[u8]) {
 
 // The questions of a book in turn: a letter each, and a string that has the question with its answer.
 fn replay_questions(
-    commands: &[u8],
-    text: &[u8],
+    book: &Book,
     list: &[u8],
     before: Tally,
     counts: &mut [u64],
@@ -94,11 +79,11 @@ fn replay_questions(
 ) -> Tally {
     let mut tally = before;
     let mut rest = list;
-    while !rest.is_empty() {
-        let (body, next) = split_string(from(rest, 1));
-        let (question, answer) = split_question(byte_at(rest, 0), body);
+    while let [letter, strings @ ..] = rest {
+        let (body, next) = split_string(strings);
+        let (question, answer) = split_question(*letter, body);
         count(counts, answer);
-        tally = tally.with(agrees(question, commands, text, answer, room));
+        tally = tally.with(agrees(question, book, answer, room));
         rest = next;
     }
     tally
@@ -113,7 +98,8 @@ fn replay(list: &[u8], counts: &mut [u64], room: &mut [u8]) -> Tally {
         let size = long_at(rest, 0);
         let (commands, body) = split_string(upto(from(rest, 4), size));
         let (text, questions) = split_string(body);
-        tally = replay_questions(commands, text, questions, tally, counts, room);
+        let book = Book { commands, text };
+        tally = replay_questions(&book, questions, tally, counts, room);
         rest = from(rest, size + 4);
     }
     tally

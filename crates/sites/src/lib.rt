@@ -6,7 +6,7 @@ ghost use Rattle.ends.specs.Ends.{parent_of};
 ghost use Rattle.rows.specs.Rows.{number_of, Row, site_of};
 ghost use Rattle.rows.specs.Checked.{records_in};
 
-use rows::{BASE_PLACE, CheckedBook, OWN_PLACE};
+use rows::{CheckedBook, places};
 use values::base_of;
 
 // The number of the row's own record.
@@ -14,7 +14,7 @@ pub fn site_number(row: &[u8]) -> usize
     requires { length row.now ≡ 28 }
     ensures { result ≡ number_of row.now }
 {
-    usize::from(row[OWN_PLACE])
+    usize::from(row[places::OWN])
 }
 
 // The directory of the row's own record, in which its config is built.
@@ -23,7 +23,7 @@ pub fn site_dir<'a>(book: &CheckedBook<'a>, row: &[u8]) -> &'a [u8]
     ensures value { result.now ≡ parent_of (site_of (records_in book.now) row.now).path }
     ensures short { length result.now ≤ 512 }
 {
-    match book.supplier(row, OWN_PLACE) {
+    match book.supplier(row, places::OWN) {
         Some(own) => own.dir(),
         None => b"",
     }
@@ -36,7 +36,7 @@ pub fn site_base<'a>(book: &CheckedBook<'a>, row: &[u8], buffer: &'a mut [u8]) -
     ensures value { result.now ≡ (site_of (records_in book.now) row.now).config.base }
     ensures short { length result.now ≤ 1600 }
 {
-    match book.supplier(row, BASE_PLACE) {
+    match book.supplier(row, places::BASE) {
         Some(supplier) => base_of(&supplier, site_dir(book, row), buffer),
         None => b"",
     }

@@ -14,14 +14,11 @@ ghost use Rattle.targets.specs.Targets.{Lists};
 use component_walk::inside_node_modules;
 use emit::Output;
 use join::normalize_with;
-use mapping::{BASE_URL_PLACE, put_aliases, starts_dot};
+use mapping::{put_aliases, starts_dot};
 use root_tries::put_root_tries;
-use rows::CheckedBook;
+use rows::{CheckedBook, places};
 use sites::site_dir;
 use targets::put_read;
-
-// Where a row has the record that names rootDirs.
-const ROOT_DIRS_PLACE: usize = 5;
 
 // Writes the tries of a specifier that starts with a dot, and gives how many they are: read from the directory, in the root dirs of the row's config.
 fn put_from_roots(
@@ -39,7 +36,7 @@ fn put_from_roots(
     requires near { out.old.at ≤ 65536 }
     ensures { Lists (root_tries (normalize_with directory.now spec.now) ((config_at book.now row.now).named root_dirs)) out.old out.new result }
 {
-    let Some(record) = book.supplier(row, ROOT_DIRS_PLACE) else {
+    let Some(record) = book.supplier(row, places::ROOT_DIRS) else {
         return 0;
     };
     let mut buffer = [0u8; 1100];
@@ -68,7 +65,7 @@ pub fn put_tries(
         return put_from_roots(out, book, row, dir, directory, spec);
     }
     let mapped = put_aliases(out, book, row, dir, base, spec);
-    match book.supplier(row, BASE_URL_PLACE) {
+    match book.supplier(row, places::BASE_URL) {
         Some(_) => {
             put_read(out, base, spec);
             mapped + 1

@@ -1,0 +1,32 @@
+// The places of a row: at each stands the record that supplies the field.
+
+pub const FILES: usize = 0;
+
+pub const INCLUDE: usize = 1;
+
+pub const EXCLUDE: usize = 2;
+
+pub const BASE_URL: usize = 3;
+
+pub const PATHS: usize = 4;
+
+pub const ROOT_DIRS: usize = 5;
+
+pub const OUT_DIR: usize = 6;
+
+pub const DECLARATION_DIR: usize = 7;
+
+// Where the flags begin, by their ids.
+pub const FLAGS: usize = 8;
+
+// allowJs is the flag 8.
+pub const ALLOW_JS: usize = FLAGS + 8;
+
+// Where the text options begin, by their ids.
+pub const TEXTS: usize = 19;
+
+// The record that the base is of.
+pub const BASE: usize = 26;
+
+// The row's own record.
+pub const OWN: usize = 27;
