@@ -9,7 +9,8 @@ ghost use Rattle.book.specs.Steps.{width_told, step_at};
 
 use text::{from, upto};
 
-// The commands, by their byte.
+// The commands, by their byte: the definitions speak of the byte, as document 01 does, and what is asked of a command is a match over it. An enum would add a way
+// there and back, each with its proof.
 
 pub const BEGIN: u8 = 0x01;
 
@@ -132,7 +133,7 @@ fn width(op: u8) -> Option<usize>
     }
 }
 
-// Two bytes, low first.
+// Two bytes that are there, low first. `lists` has the like for bytes that may be missing.
 pub fn word_at(s: &[u8], at: usize) -> usize
     requires { at + 1 < length s.now }
     ensures { result ≡ word s.now at }

@@ -49,6 +49,7 @@ pub fn check_tables(
     };
     let mut keys = Keys::new();
     let mut rows = [Seen::NONE; MOST_RECORDS];
+    // The records are counted as they are closed: how many there are, and where the next begins, shows only then.
     let mut n = 0;
     let mut at = 0;
     while at < commands.len() {

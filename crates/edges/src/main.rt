@@ -137,7 +137,7 @@ fn bad_text(commands: &[u8], text: &mut [u8], n: usize, at: usize) -> usize {
     sum
 }
 
-// Appends what a body says, how often and bytes, to the first n bytes, as far as there is room; how many there are then.
+// Appends what a body says, how often and bytes, to the first n bytes, as far as there is room; how many there are then. Counted by hand, since the room may end within the bytes.
 fn grow(out: &mut [u8], n: usize, body: &[u8]) -> usize {
     let mut k = n;
     for _ in 0..word_at(body, 0) {

@@ -14,7 +14,7 @@ use std::marker::Model;
 use strings::LONGEST;
 use text::{SLASH, upto};
 
-// Whether two strings meet: as paths, one the other or its ancestor; as keys, the same. Only the shorter can cover the longer, and of two of one length either.
+// Whether two strings meet. `paths` is a part of what is asked, as in the definition, and not a choice of steps: as paths, one the other or its ancestor; as keys, the same. Only the shorter can cover the longer, and of two of one length either.
 fn do_meet(paths: bool, a: &[u8], b: &[u8]) -> bool
     ensures { result ≡ meets paths a.now b.now }
 {

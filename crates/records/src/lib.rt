@@ -145,6 +145,7 @@ impl<'a> PathTable<'a> {
     {
         let mut k = look;
         let mut i = 0;
+        // No walk over the rows: each look goes on behind the last, with other bytes.
         loop {
             let c = self.next_joined(i, p, k);
             if self.count <= c {

@@ -109,7 +109,7 @@ pub fn is_tame(s: &[u8]) -> bool
     holds_of_each(s, is_tame_byte)
 }
 
-// Whether s is a string, where the text that it is a part of may be known to be tame.
+// Whether s is a string, where the text that it is a part of may be known to be tame: a fact about that text, which `BookText` of `faults` has and not s.
 pub fn is_string_of(tame: bool, s: &[u8]) -> bool
     requires { tame ≡ true → tame_text s.now ≡ true }
     ensures { result ≡ string_rule s.now }

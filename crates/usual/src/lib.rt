@@ -75,6 +75,7 @@ fn pass_run(text: &[u8], part: &[u8], at: usize, tally: &mut Tally, op: u8) -> u
         return at;
     }
     let k = usize::from(op);
+    // The place goes on by a command at a time, since each is looked at before it is taken.
     let mut to = at;
     for m in tally.counts[k]..most {
         if !fits(text, part, to, op) {
