@@ -19,7 +19,7 @@ use claims::is_claimed;
 use component_walk::{count_components, inside_node_modules};
 use ends::parent;
 use references::load_record;
-use rows::{ABSENT, CheckedBook, ROW};
+use rows::{CheckedBook, ROW};
 use sites::site_number;
 
 // The owner of a file: the record of the config found on the walk, and that of its solution.
@@ -73,10 +73,13 @@ fn owned_in(book: &CheckedBook<'_>, folder: &[u8], path: &[u8]) -> Result<Option
     let Some(c) = book.paths.config_in(folder) else {
         return Ok(None);
     };
-    let mut row = [ABSENT; ROW];
-    let mut refs = [[ABSENT; ROW]; 16];
-    let project = load_record(book, c, &mut row, &mut refs)?;
-    Ok(owned_by(book, &row, &refs[..project.references], path))
+    let project = load_record(book, c)?;
+    Ok(owned_by(
+        book,
+        &project.row,
+        &project.references[..project.count],
+        path,
+    ))
 }
 
 // The path as a folder and each folder above it in turn, until one owns the path.

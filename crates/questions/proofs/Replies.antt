@@ -36,8 +36,9 @@ use Rattle.paths_reply.specs.Paths.{paths_by}
 use Rattle.owner.specs.Owned.{answered}
 use Rattle.owner.specs.declared.Owner.{Owner}
 use Rattle.questions.specs.Questions.{asked, book, build, candidates_of, tries_of, owner, owner_reply, tsconfig_build, tsconfig_owner, tsconfig_candidates, tsconfig_tries}
-use Rattle.questions.specs.Replies.{asked_for, asked_load, tsconfig_paths, numbers_by, Ready, ToldBy, OwnerAs}
-use Rattle.questions.specs.declared.Loaded.{Loaded}
+use Rattle.questions.specs.Replies.{asked_for, asked_load, tsconfig_paths, numbers_by, Ready, LoadsAs, ToldBy, OwnerAs}
+use Rattle.references.specs.References.{WholeAs}
+use Rattle.references.specs.declared.Project.{Project as Loaded}
 
 no_answer : {A X : Type 0} {n p : ℕ} {a : A} → refused n p ≡ given a → X
 no_answer e = let z : ◌≡◌ {A = ℕ} 0 1 = cc in absurd (omega (arith, z))
@@ -73,6 +74,11 @@ module _ (b : CheckedBook) (path : Text) (ok : Bool) (e : ok ≡ true) (f : Opti
     pub asked_found : asked_load ok (records_in b) path ≡ load_record (records_in b) c
     unfolding load_path load_found
     asked_found = rw (e, ← located, g) refl
+
+-- the load of a record, as it is asked for
+pub loads_as : (rs : List Parsed) (a : Answer Project) (c : ℕ) → a ≡ load_record rs c → (r : Result Loaded Refusal) → WholeAs rs c r → LoadsAs rs a r
+loads_as rs a c e (Err r) w = e ∙ w
+loads_as rs a c e (Ok l) w = record { references = _; answer = e ∙ w.answer; sound = w.row }
 
 -- What is made of a load
 

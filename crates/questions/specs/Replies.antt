@@ -15,7 +15,7 @@ use Rattle.tsconfig.specs.Claims.{Site}
 use Rattle.tsconfig_resolver.specs.Project.{Project, load_path}
 use Rattle.replies.specs.Replies.{Outcome, returned, numbers_of, Told}
 use Rattle.replies.specs.declared.Numbers.{Numbers}
-use Rattle.questions.specs.declared.Loaded.{Loaded}
+use Rattle.references.specs.declared.Project.{Project as Loaded}
 use Rattle.questions.specs.Questions.{book, tsconfig_candidates, tsconfig_tries}
 
 -- what is told of a book by its check: the refusal, or its records

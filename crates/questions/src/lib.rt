@@ -14,9 +14,9 @@ use owner::find_owner;
 use path_rules::is_asked_path;
 use paths_reply::write_paths;
 use records::PathTable;
-use references::load_record;
+use references::{Project, load_record};
 use replies::{Numbers, give, refuse};
-use rows::{ABSENT, CheckedBook, ROW};
+use rows::CheckedBook;
 use sites::site_base;
 use strings::is_string;
 
@@ -39,13 +39,6 @@ impl Tables {
             lens: [0; 64],
         }
     }
-}
-
-// A config that is loaded: its row, and the merges made.
-#[derive(Clone, Copy)]
-struct Loaded {
-    row: [u8; ROW],
-    merges: usize,
 }
 
 // The book, which is checked first.
@@ -87,7 +80,7 @@ fn is_asked(path: &[u8], directory: Option<&[u8]>, specifier: &[u8]) -> bool
 }
 
 // Loads the record that the path means, where the question may be asked.
-fn load_asked(book: &CheckedBook<'_>, ok: bool, path: &[u8]) -> Result<Loaded, Refusal>
+fn load_asked(book: &CheckedBook<'_>, ok: bool, path: &[u8]) -> Result<Project, Refusal>
     ensures { LoadsAs (records_in book.now) (asked_load ok (records_in book.now) path.now) result }
 {
     if !ok {
@@ -102,13 +95,7 @@ fn load_asked(book: &CheckedBook<'_>, ok: bool, path: &[u8]) -> Result<Loaded, R
             place: NOBODY,
         });
     };
-    let mut row = [ABSENT; ROW];
-    let mut refs = [[ABSENT; ROW]; 16];
-    let project = load_record(book, c, &mut row, &mut refs)?;
-    Ok(Loaded {
-        row,
-        merges: project.merges,
-    })
+    load_record(book, c)
 }
 
 // The numbers of an answer, or of its refusal.
@@ -127,7 +114,7 @@ fn build(commands: &[u8], text: &[u8], path: &[u8], out: &mut [u8]) -> Result<Nu
 {
     let mut tables = Tables::new();
     let book = open_book(commands, text, &mut tables)?;
-    let Loaded { row, merges } = load_asked(&book, is_asked_path(path), path)?;
+    let Project { row, merges, .. } = load_asked(&book, is_asked_path(path), path)?;
     let mut buffer = [0u8; 1600];
     let base = site_base(&book, &row, &mut buffer);
     let mut scratch = [0u8; 4096];
@@ -154,7 +141,7 @@ fn paths(
 {
     let mut tables = Tables::new();
     let book = open_book(commands, text, &mut tables)?;
-    let Loaded { row, .. } = load_asked(&book, is_asked(path, directory, specifier), path)?;
+    let Project { row, .. } = load_asked(&book, is_asked(path, directory, specifier), path)?;
     let mut buffer = [0u8; 1600];
     let base = site_base(&book, &row, &mut buffer);
     let mut scratch = [0u8; 1024];

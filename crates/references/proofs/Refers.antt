@@ -250,7 +250,7 @@ module _ (rs : List Parsed) where
             goes
             ∙ ap (λ (y : Answer (List Site)). y >>= λ refs. given (record { site = site_at rs c (config_of rs l.row); references = refs; merges = l.merges })) (subst (ListedAs rs (references_of rs c (record_at rs c).references (state_of rs t l.merges)) refs) h p.told)
 
-        pub whole_done : (k : ℕ) → v ≡ Ok k → Whole rs c l.row refs (record { merges = l.merges; references = k })
+        pub whole_done : (k : ℕ) → v ≡ Ok k → Whole rs c (record { row = l.row; references = refs; count = k; merges = l.merges })
         unfolding site_of
         whole_done k h =
             let z : Listed rs (references_of rs c (record_at rs c).references (state_of rs t l.merges)) refs k = subst (ListedAs rs (references_of rs c (record_at rs c).references (state_of rs t l.merges)) refs) h p.told in

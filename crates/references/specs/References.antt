@@ -60,16 +60,16 @@ ListedAs rs a refs (Ok k) = Listed rs a refs k
 pub record Lists (rs : List Parsed) (a : Answer (List Site)) (refs : List (List ℕ)) (r : Result ℕ Refusal) : Type 0 where
   pub told : ListedAs rs a refs r
 
--- a config that is loaded with its references, by its row and theirs
-pub record Opened (rs : List Parsed) (c : ℕ) (x : List ℕ) (refs : List (List ℕ)) (p : Project) : Type 0 where
-  pub answer : load_record rs c ≡ given (record { site = site_of rs x; references = sites_of rs (take p.references refs); merges = p.merges })
-  pub row : Row rs x
-  pub own : number_of x ≡ c
-  pub few : p.references ≤ 16
-  pub rows : All (Row rs) (take p.references refs)
+-- a config that is loaded with its references
+pub record Opened (rs : List Parsed) (c : ℕ) (p : Project) : Type 0 where
+  pub answer : load_record rs c ≡ given (record { site = site_of rs p.row; references = sites_of rs (take p.count p.references); merges = p.merges })
+  pub row : Row rs p.row
+  pub own : number_of p.row ≡ c
+  pub few : p.count ≤ 16
+  pub rows : All (Row rs) (take p.count p.references)
   pub small : p.merges ≤ 65536
 
 -- what is told of the load of a config with its references
-abbrev pub WholeAs : List Parsed → ℕ → List ℕ → List (List ℕ) → Result Project Refusal → Type 0
-WholeAs rs c row refs (Err r) = load_record rs c ≡ refusal r
-WholeAs rs c row refs (Ok p) = Opened rs c row refs p
+abbrev pub WholeAs : List Parsed → ℕ → Result Project Refusal → Type 0
+WholeAs rs c (Err r) = load_record rs c ≡ refusal r
+WholeAs rs c (Ok p) = Opened rs c p

@@ -12,18 +12,20 @@ ghost use Rattle.references.specs.References.{Refers, Lists, WholeAs, ReferPre, 
 use book::{Fault, REFERENCE, Refusal};
 use entries::{Opened, find_meant, open_record, record_dir};
 use load::{Loaded, Table, load, walk};
-use rows::{CheckedBook, ROW};
+use rows::{ABSENT, CheckedBook, ROW};
 
 // How many records a book has and how many references a record has, at most.
 const RECORDS: usize = 64;
 
 const REFERENCES: usize = 16;
 
-// What is told of a config that is loaded with its references: the config's merges, and how many references it has.
+// A config that is loaded with its references: its row, theirs and how many they are, and the config's merges.
 #[derive(Clone, Copy)]
 pub struct Project {
+    pub row: [u8; ROW],
+    pub references: [[u8; ROW]; REFERENCES],
+    pub count: usize,
     pub merges: usize,
-    pub references: usize,
 }
 
 // Loads the reference r of the record c, after m merges: its own row and its parents, by a chain that starts empty. It is not put into the
@@ -91,19 +93,19 @@ fn load_references(
     Ok(count)
 }
 
-// Loads the record c as the asked config: its extends, to its row, and its references, each to its row.
-pub fn load_record(
-    book: &CheckedBook<'_>,
-    c: usize,
-    row: &mut [u8; ROW],
-    refs: &mut [[u8; ROW]; REFERENCES],
-) -> Result<Project, Refusal>
+// Loads the record c as the asked config: its extends, and its references, each to its row.
+pub fn load_record(book: &CheckedBook<'_>, c: usize) -> Result<Project, Refusal>
     requires { c < book.now.paths.count }
-    ensures { WholeAs (records_in book.now) c row.new refs.new result }
+    ensures { WholeAs (records_in book.now) c result }
 {
     let mut table = [None; RECORDS];
-    let Loaded { row: own, merges } = load(book, &mut table, [false; RECORDS], c, 0)?;
-    *row = own;
-    let references = load_references(book, &mut table, c, refs, merges)?;
-    Ok(Project { merges, references })
+    let Loaded { row, merges } = load(book, &mut table, [false; RECORDS], c, 0)?;
+    let mut references = [[ABSENT; ROW]; REFERENCES];
+    let count = load_references(book, &mut table, c, &mut references, merges)?;
+    Ok(Project {
+        row,
+        references,
+        count,
+        merges,
+    })
 }

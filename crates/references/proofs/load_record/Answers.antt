@@ -6,22 +6,22 @@ use Rattle.references.proofs.load_record.Goals as goal
 pub load-requires : goal.load-requires
 load-requires c = record_load c.args.book.now c.args.c c.requires
 
-pub returns-in_err-own : goal.returns-in_err-own
-returns-in_err-own c =
+pub returns-in_err-row : goal.returns-in_err-row
+returns-in_err-row c =
     let a = c.args in
     let p = err_from_is_err_and c.from_residual.result c.from_residual.ensures.1 in
-    rw (p.1, p.2) (whole_refused (records_in a.book.now) a.c _ _ c.load.ensures _ c.in_err-own.was)
+    rw (p.1, p.2) (whole_refused (records_in a.book.now) a.c _ _ c.load.ensures _ c.in_err-row.was)
 
 pub load_references-requires : goal.load_references-requires
-load_references-requires c = let a = c.args in record_references a.book.now a.c c.requires _ _ c.load.ensures _ c.in_ok-own.was
+load_references-requires c = let a = c.args in record_references a.book.now a.c c.requires _ _ c.load.ensures _ c.in_ok-row.was
 
-pub returns-in_err-references : goal.returns-in_err-references
-returns-in_err-references c =
+pub returns-in_err-count : goal.returns-in_err-count
+returns-in_err-count c =
     let a = c.args in
-    let p = err_from_is_err_and c.from_residual-in_err-references.result c.from_residual-in_err-references.ensures.1 in
-    rw (p.1, p.2) (whole_reference (records_in a.book.now) a.c _ _ c.load.ensures _ c.in_ok-own.was _ _ c.load_references.ensures _ c.in_err-references.was)
+    let p = err_from_is_err_and c.from_residual-in_err-count.result c.from_residual-in_err-count.ensures.1 in
+    rw (p.1, p.2) (whole_reference (records_in a.book.now) a.c _ _ c.load.ensures _ c.in_ok-row.was _ _ c.load_references.ensures _ c.in_err-count.was)
 
 pub returns : goal.returns
 returns c =
     let a = c.args in
-    whole_done (records_in a.book.now) a.c _ _ c.load.ensures _ c.in_ok-own.was _ _ c.load_references.ensures _ c.in_ok-references.was
+    whole_done (records_in a.book.now) a.c _ _ c.load.ensures _ c.in_ok-row.was _ _ c.load_references.ensures _ c.in_ok-count.was
