@@ -1,11 +1,29 @@
--- What is answered to a question.
-use Rattle.std.specs.Prelude.{◌≡◌, length}
+-- What a line asks, and what is answered to a question.
+use Rattle.std.specs.Prelude.{◌≡◌, length, drop, Option, Some, None}
 use Rattle.text.specs.Bytes.{Text}
+use Rattle.text.specs.Text.{before_byte, after_byte}
+use Rattle.asked.specs.Asked.{tab, kind_of}
+use Rattle.asked.specs.declared.Kind.TheVariants as kind
 use Rattle.replies.specs.declared.Numbers.{Numbers}
 use Rattle.replies.specs.Replies.{returned, numbers_of, Told}
 use Rattle.questions.specs.Questions.{tsconfig_build, tsconfig_owner, tsconfig_candidates, tsconfig_tries}
 use Rattle.asking.specs.declared.Question.{Question}
 use Rattle.asking.specs.declared.Question.TheVariants.{Build, Owner, Candidates, Tries}
+
+-- the fields of a line, after its letter and blank
+abbrev pub fields_of : Text → Text
+fields_of line = drop 2 line
+
+-- a line asks by its letter, and is about its fields; another line asks nothing
+abbrev pub Asks : Text → Option Question → Type 0
+Asks line None = kind_of line ≡ None
+Asks line (Some (Build path)) = (kind_of line ≡ Some kind.Build) × (path.now ≡ fields_of line)
+Asks line (Some (Owner path)) = (kind_of line ≡ Some kind.Owner) × (path.now ≡ fields_of line)
+Asks line (Some (Candidates path specifier)) =
+    (kind_of line ≡ Some kind.Candidates) × ((path.now ≡ before_byte tab (fields_of line)) × (specifier.now ≡ after_byte tab (fields_of line)))
+Asks line (Some (Tries path directory specifier)) =
+    (kind_of line ≡ Some kind.Tries) × ((path.now ≡ before_byte tab (fields_of line))
+    × ((directory.now ≡ before_byte tab (after_byte tab (fields_of line))) × (specifier.now ≡ after_byte tab (after_byte tab (fields_of line)))))
 
 -- the numbers returned and the lent output, before and after, are what comes of the question; an owner is told by numbers alone
 abbrev pub Answers : Question → Text → Text → Numbers → Text → Text → Type 0

@@ -3,7 +3,7 @@
 #![tactic(auto)]
 
 ghost use Rattle.std.specs.Prelude.{◌+◌, ◌<◌, ◌≤◌, length, IfSome};
-ghost use Rattle.asking.specs.Questions.{Answers};
+ghost use Rattle.asking.specs.Questions.{Asks, Answers};
 
 use asked::{Kind, fields, first_field, kind_of, other_fields};
 use lists::word_at;
@@ -34,7 +34,9 @@ pub enum Question<'a> {
 }
 
 // The question that a line asks.
-pub fn question_of(line: &[u8]) -> Option<Question> {
+pub fn question_of(line: &[u8]) -> Option<Question>
+    ensures { Asks line.now result }
+{
     let asked = fields(line);
     let rest = other_fields(asked);
     let question = match kind_of(line)? {

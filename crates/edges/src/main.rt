@@ -180,6 +180,12 @@ fn write_progress(rt: &(impl Print + Eprint), progress: Progress) {
     say(rt, b"\n");
 }
 
+// Whether the check of the first bytes of both gives the verdict that a body says.
+fn is_judged(commands: &[u8], text: &[u8], body: &[u8]) -> bool {
+    let commands = upto(commands, triple_at(body, 0));
+    judge(commands, upto(text, triple_at(body, 3))) == listed(body)
+}
+
 // One entry. At a name what came of the group before is written, if there is one, then the name, and a new tally begins.
 fn turn(
     rt: &(impl Print + Eprint),
@@ -218,13 +224,7 @@ fn turn(
             text: grow(text, before.text, body),
             ..before
         },
-        Kind::Verdict => {
-            let verdict = judge(
-                upto(commands, triple_at(body, 0)),
-                upto(text, triple_at(body, 3)),
-            );
-            before.with(verdict == listed(body), 1)
-        }
+        Kind::Verdict => before.with(is_judged(commands, text, body), 1),
         Kind::BadCommand => {
             let judged = upto(text, before.text);
             let sum = bad_command(commands, before.commands, judged, word_at(body, 0));
