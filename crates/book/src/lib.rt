@@ -307,3 +307,20 @@ impl Seen {
         mark: 0,
     };
 }
+
+// A row of a book's index: where a record begins in the commands, and its path's start and length in the text.
+#[derive(Clone, Copy)]
+pub struct IndexRow {
+    pub begin: usize,
+    pub start: usize,
+    pub len: usize,
+}
+
+impl IndexRow {
+    // A row that says nothing yet.
+    pub const NONE: IndexRow = IndexRow {
+        begin: 0,
+        start: 0,
+        len: 0,
+    };
+}

@@ -1,6 +1,6 @@
 -- The loop over records: what holds before each, and each way out. Assumes nothing.
 use mathlib.Core.Path.{◌≡◌, refl, sym, ap, subst, ◌∙◌}
-use mathlib.Core.List.{List, [], ◌∷◌, ◌++◌, map, reverse, reverse-cons, append_assoc, append-nil}
+use mathlib.Core.List.{List, [], ◌∷◌, ◌++◌, map, map-append, reverse, reverse-cons, append_assoc, append-nil}
 use Prim.Native.Nat.{ℕ, suc, ◌+◌, ◌-◌, ◌≤◌, ◌<◌}
 use native.Mathlib.Omega.{arith}
 use native.Mathlib.Numerals.{add-one}
@@ -18,7 +18,8 @@ use Rattle.book.specs.Answer.{refused}
 use Rattle.book.specs.Command.{decode}
 use Rattle.book.specs.Rules.{path_of}
 use Rattle.book.specs.Book.{judge, finish, verdict}
-use Rattle.book.specs.Index.{up_to_end, record_at, begins_of, Row, AcceptedAs}
+use Rattle.book.specs.Index.{up_to_end, record_at, begins_of, no_row, index_at, Row, AcceptedAs}
+use Rattle.book.specs.declared.IndexRow.{IndexRow}
 use Rattle.book.specs.declared.Seen.{Seen}
 use Rattle.book.specs.State.{texts, IsSeen, AllSeen}
 use Rattle.std.proofs.lemmas.List.{take_more_set, length-append}
@@ -37,40 +38,44 @@ module _ (commands text : Text) where
   unfolding verdict
   size_text h l = rw (le-ltb _ _ h, lt-ltb _ _ l) refl
 
-  pub record Booked (begins starts lens : List ℕ) (rows : List Seen) (n at : ℕ) : Type 0 where
+  -- where the records of the first n rows begin
+  abbrev pub begins : ℕ → List IndexRow → List ℕ
+  begins n index = map (λ (row : IndexRow). row.begin) (take n index)
+
+  pub record Booked (index : List IndexRow) (rows : List Seen) (n at : ℕ) : Type 0 where
     pub records : List (List Cmd)
     pub held : Held text (take n rows) records
     pub seen : AllSeen text (take n rows)
     pub few : n ≤ 64
-    pub sizes : (length begins ≡ 64) × ((length starts ≡ 64) × (length lens ≡ 64))
+    pub long : length index ≡ 64
     pub room : length rows ≡ 64
     pub place : at ≤ length commands
     pub whole : verdict commands text ≡ judge text (record { records = records; here = [] }) (decode 0 at (drop at commands))
-    pub offsets : begins_of (decode 0 0 commands) ≡ take n begins ++ begins_of (decode 0 at (drop at commands))
-    pub index : (i : ℕ) → i < n → Row commands text (get_or begins i 0) (get_or starts i 0) (get_or lens i 0) (get_or (reverse (map reverse records)) i [])
+    pub offsets : begins_of (decode 0 0 commands) ≡ begins n index ++ begins_of (decode 0 at (drop at commands))
+    pub each : (i : ℕ) → i < n → Row commands text (index_at index i) (get_or (reverse (map reverse records)) i [])
 
-  pub booked_none : length commands ≤ 32768 → length text ≤ 65535 → (begins starts lens : List ℕ) (rows : List Seen) → length begins ≡ 64 → length starts ≡ 64 → length lens ≡ 64 → length rows ≡ 64 → Booked begins starts lens rows 0 0
+  pub booked_none : length commands ≤ 32768 → length text ≤ 65535 → (index : List IndexRow) (rows : List Seen) → length index ≡ 64 → length rows ≡ 64 → Booked index rows 0 0
   unfolding verdict texts
-  booked_none h l begins starts lens rows a b c d =
+  booked_none h l index rows a d =
       record {
         records = [];
         held = record { size = refl; paths = refl };
         seen = All-nil (IsSeen text);
         few = omega arith;
-        sizes = (a, (b, c));
+        long = a;
         room = d;
         place = omega arith;
         whole = rw (le-ltb _ _ h, le-ltb _ _ l) refl;
         offsets = refl;
-        index = λ i h. absurd (omega (arith, h));
+        each = λ i h. absurd (omega (arith, h));
       }
 
-  module _ {begins starts lens : List ℕ} {rows : List Seen} {n at : ℕ} (s : Booked begins starts lens rows n at) where
+  module _ {index : List IndexRow} {rows : List Seen} {n at : ℕ} (s : Booked index rows n at) where
     -- as many rows as records
     rows_long : length (take n rows) ≡ n
     rows_long = length-take-le n rows (omega (arith, s.few, s.room))
 
-    pub booked_end : length commands ≤ at → AcceptedAs commands text begins starts lens n
+    pub booked_end : length commands ≤ at → AcceptedAs commands text index n
     unfolding judge decode finish begins_of
     booked_end h =
         record {
@@ -78,8 +83,8 @@ module _ (commands text : Text) where
           accepted = s.whole ∙ rw (drop_of_length-le commands h) refl;
           size = length-reverse (map reverse s.records) ∙ length-map s.records reverse ∙ s.held.size ∙ rows_long;
           few = s.few;
-          offsets = sym (s.offsets ∙ rw (drop_of_length-le commands h) (append-nil (take n begins)));
-          rows = s.index;
+          offsets = sym (s.offsets ∙ rw (drop_of_length-le commands h) (append-nil (begins n index)));
+          each = s.each;
         }
 
     module _ (part : Text) (is : part ≡ drop at commands) (r : Result Closed Refusal) (c : CheckedAs part at text (take n rows) r) where
@@ -114,7 +119,10 @@ module _ (commands text : Text) where
         before : length (reverse (map reverse s.records)) ≡ n
         before = length-reverse (map reverse s.records) ∙ length-map s.records reverse ∙ s.held.size ∙ rows_long
 
-        new_row : Row commands text at start len (reverse closed_as.closed)
+        abbrev row : IndexRow
+        row = record { begin = at; start = start; len = len }
+
+        new_row : Row commands text row (reverse closed_as.closed)
         unfolding record_at
         new_row =
             record {
@@ -124,41 +132,41 @@ module _ (commands text : Text) where
               path = sym closed_as.named;
             }
 
-        rows_on : (i : ℕ) → i < n + 1 → Row commands text (get_or (set begins n at) i 0) (get_or (set starts n start) i 0) (get_or (set lens n len) i 0) (get_or (reverse (map reverse (closed_as.closed ∷ s.records))) i [])
+        rows_on : (i : ℕ) → i < n + 1 → Row commands text (index_at (set index n row) i) (get_or (reverse (map reverse (closed_as.closed ∷ s.records))) i [])
         rows_on i h =
             by_test (eqb i n)
-            (λ y. subst (λ (j : ℕ). Row commands text (get_or (set begins n at) j 0) (get_or (set starts n start) j 0) (get_or (set lens n len) j 0) (get_or (reverse (map reverse (closed_as.closed ∷ s.records))) j [])) (sym (eqb-true i n y))
-            (rw (listed, get_or_at (reverse (map reverse s.records)) (reverse closed_as.closed) [] [] n before, get_or-set_same begins n at 0 (omega (arith, booked_few, s.sizes.0)), get_or-set_same starts n start 0 (omega (arith, booked_few, s.sizes.1.0)), get_or-set_same lens n len 0 (omega (arith, booked_few, s.sizes.1.1)))
+            (λ y. subst (λ (j : ℕ). Row commands text (index_at (set index n row) j) (get_or (reverse (map reverse (closed_as.closed ∷ s.records))) j [])) (sym (eqb-true i n y))
+            (rw (listed, get_or_at (reverse (map reverse s.records)) (reverse closed_as.closed) [] [] n before, get_or-set_same index n row no_row (omega (arith, booked_few, s.long)))
             new_row))
             (λ y.
             let other : i ≡ n → ⊥ = eqb-false i n y in
             let less : i < n = omega (arith, h, other) in
-            rw (listed, get_or-append (reverse (map reverse s.records)) (reverse closed_as.closed ∷ []) [] i (omega (arith, less, before)), get_or-set_other begins n i at 0 other, get_or-set_other starts n i start 0 other, get_or-set_other lens n i len 0 other)
-            (s.index i less))
+            rw (listed, get_or-append (reverse (map reverse s.records)) (reverse closed_as.closed ∷ []) [] i (omega (arith, less, before)), get_or-set_other index n i row no_row other)
+            (s.each i less))
 
-        pub booked_on : (mark : ℕ) → mark ≡ digest_of (take len (drop start text)) → Booked (set begins n at) (set starts n start) (set lens n len) (set rows n (record { start = start; len = len; mark = mark })) (n + 1) to
+        pub booked_on : (mark : ℕ) → mark ≡ digest_of (take len (drop start text)) → Booked (set index n row) (set rows n (record { start = start; len = len; mark = mark })) (n + 1) to
         booked_on mark y =
             let d = closed_as in
             record {
               records = d.closed ∷ s.records;
               held = record {
-                size = ap suc s.held.size ∙ sym (add-one (length (take n rows))) ∙ sym (ap length (more row) ∙ length-append (take n rows) (row ∷ []));
-                paths = here d.path ∙ sym (ap (texts text) (more row) ∙ texts_more text (take n rows) row);
+                size = ap suc s.held.size ∙ sym (add-one (length (take n rows))) ∙ sym (ap length (more seen) ∙ length-append (take n rows) (seen ∷ []));
+                paths = here d.path ∙ sym (ap (texts text) (more seen) ∙ texts_more text (take n rows) seen);
               };
-              seen = subst (AllSeen text) (sym (more row)) (All-push (IsSeen text) (take n rows) row s.seen (record { within = d.within; marked = y }));
+              seen = subst (AllSeen text) (sym (more seen)) (All-push (IsSeen text) (take n rows) seen s.seen (record { within = d.within; marked = y }));
               few = omega (arith, booked_few);
-              sizes = (length-set begins n at ∙ s.sizes.0, (length-set starts n start ∙ s.sizes.1.0, length-set lens n len ∙ s.sizes.1.1));
-              room = length-set rows n row ∙ s.room;
+              long = length-set index n row ∙ s.long;
+              room = length-set rows n seen ∙ s.room;
               place = omega (arith, d.moves, left, s.place);
               whole =
                   s.whole ∙ ap (λ (l : Text). judge text (record { records = s.records; here = [] }) (decode 0 at l)) (sym is) ∙ d.whole s.records s.held
                   ∙ ap (λ (l : Text). judge text (record { records = d.closed ∷ s.records; here = [] }) (decode 0 to l)) on;
               offsets = offsets_on;
-              index = rows_on;
+              each = rows_on;
             }
           where
-            row : Seen
-            row = record { start = start; len = len; mark = mark }
+            seen : Seen
+            seen = record { start = start; len = len; mark = mark }
 
             more : (r : Seen) → take (n + 1) (set rows n r) ≡ take n rows ++ r ∷ []
             more r = take_more_set rows n r (omega (arith, booked_few, s.room))
@@ -166,9 +174,12 @@ module _ (commands text : Text) where
             here : {p : Text} → path_of text closed_as.closed ≡ p → map (path_of text) (closed_as.closed ∷ s.records) ≡ p ∷ texts text (take n rows)
             here y = rw (y, s.held.paths) refl
 
-            offsets_on : begins_of (decode 0 0 commands) ≡ take (n + 1) (set begins n at) ++ begins_of (decode 0 to (drop to commands))
+            begun_more : begins (n + 1) (set index n row) ≡ begins n index ++ at ∷ []
+            begun_more = ap (map (λ (r : IndexRow). r.begin)) (take_more_set index n row (omega (arith, booked_few, s.long))) ∙ map-append (λ (r : IndexRow). r.begin) (take n index) (row ∷ [])
+
+            offsets_on : begins_of (decode 0 0 commands) ≡ begins (n + 1) (set index n row) ++ begins_of (decode 0 to (drop to commands))
             offsets_on =
-                s.offsets ∙ ap (λ (l : Text). take n begins ++ begins_of (decode 0 at l)) (sym is)
-                ∙ ap (λ (l : List ℕ). take n begins ++ l) (closed_as.begun ∙ ap (λ (l : Text). at ∷ begins_of (decode 0 to l)) on)
-                ∙ sym (append_assoc (take n begins) (at ∷ []) (begins_of (decode 0 to (drop to commands))))
-                ∙ ap (λ (l : List ℕ). l ++ begins_of (decode 0 to (drop to commands))) (sym (ap (λ (k : ℕ). take k (set begins n at)) (add-one n) ∙ take-suc-set begins n at (omega (arith, booked_few, s.sizes.0))))
+                s.offsets ∙ ap (λ (l : Text). begins n index ++ begins_of (decode 0 at l)) (sym is)
+                ∙ ap (λ (l : List ℕ). begins n index ++ l) (closed_as.begun ∙ ap (λ (l : Text). at ∷ begins_of (decode 0 to l)) on)
+                ∙ sym (append_assoc (begins n index) (at ∷ []) (begins_of (decode 0 to (drop to commands))))
+                ∙ ap (λ (l : List ℕ). l ++ begins_of (decode 0 to (drop to commands))) (sym begun_more)

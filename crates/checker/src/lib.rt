@@ -1,11 +1,11 @@
 // The check of a book: its records in turn, and their index.
 #![tactic(auto)]
 
-ghost use Rattle.std.specs.Prelude.{◌≡◌, true, length};
+ghost use Rattle.std.specs.Prelude.{◌≡◌, true};
 ghost use Rattle.strings.specs.Scan.{tame_text};
 ghost use Rattle.book.specs.Index.{JudgedAs};
 
-use book::{Fault, Refusal, Seen, piece};
+use book::{Fault, IndexRow, Refusal, Seen, piece};
 use compare::digest;
 use faults::BookText;
 use meeting::Keys;
@@ -17,7 +17,7 @@ const MOST_COMMANDS: usize = 32768;
 
 const MOST_TEXT: usize = 65535;
 
-const MOST_RECORDS: usize = 64;
+pub const MOST_RECORDS: usize = 64;
 
 // Whether the text is known to be tame. A text that is long beside the commands is not looked at as a whole.
 fn is_known_tame(commands: usize, text: &[u8]) -> bool
@@ -26,16 +26,13 @@ fn is_known_tame(commands: usize, text: &[u8]) -> bool
     text.len() / 8 <= commands && is_tame(text)
 }
 
-// The verdict on a book, over tables that are lent as slices; each has a row for each record that a book may have.
-pub fn check_tables(
+// How many records a book has, or its first refusal. Of an accepted book a row of the index says each record; rows after the last record's are left open.
+pub fn check_book(
     commands: &[u8],
     text: &[u8],
-    begins: &mut [usize],
-    starts: &mut [usize],
-    lens: &mut [usize],
+    index: &mut [IndexRow; MOST_RECORDS],
 ) -> Result<usize, Refusal>
-    requires { (length begins.old ≡ 64) × ((length starts.old ≡ 64) × (length lens.old ≡ 64)) }
-    ensures { JudgedAs commands.now text.now begins.new starts.new lens.new result }
+    ensures { JudgedAs commands.now text.now index.new result }
 {
     if MOST_COMMANDS < commands.len() || MOST_TEXT < text.len() {
         return Err(Refusal {
@@ -48,16 +45,18 @@ pub fn check_tables(
         tame: is_known_tame(commands.len(), text),
     };
     let mut keys = Keys::new();
-    let mut rows = [Seen::NONE; MOST_RECORDS];
+    let mut paths = [Seen::NONE; MOST_RECORDS];
     // The records are counted as they are closed: how many there are, and where the next begins, shows only then.
     let mut n = 0;
     let mut at = 0;
     while at < commands.len() {
-        let c = check_record(&book, from(commands, at), at, &rows[..n], &mut keys)?;
-        begins[n] = at;
-        starts[n] = c.start;
-        lens[n] = c.len;
-        rows[n] = Seen {
+        let c = check_record(&book, from(commands, at), at, &paths[..n], &mut keys)?;
+        index[n] = IndexRow {
+            begin: at,
+            start: c.start,
+            len: c.len,
+        };
+        paths[n] = Seen {
             start: c.start,
             len: c.len,
             mark: digest(piece(text, c.start, c.len)),
@@ -66,17 +65,4 @@ pub fn check_tables(
         at = c.end;
     }
     Ok(n)
-}
-
-// How many records a book has, or its first refusal. Of an accepted book begins[i] is the offset of record i's BEGIN, starts[i] and lens[i] are its path's place in the text; rows after the last record's are left open.
-pub fn check_book(
-    commands: &[u8],
-    text: &[u8],
-    begins: &mut [usize; 64],
-    starts: &mut [usize; 64],
-    lens: &mut [usize; 64],
-) -> Result<usize, Refusal>
-    ensures { JudgedAs commands.now text.now begins.new starts.new lens.new result }
-{
-    check_tables(commands, text, begins, starts, lens)
 }

@@ -7,8 +7,9 @@ use Prim.Native.Nat.{ℕ, zero, suc, ◌+◌, ◌-◌, ◌≤◌, ◌<◌}
 use native.Mathlib.Omega.{arith}
 use native.Mathlib.Numerals.{add-one}
 use native.Mathlib.Nat.{add-zero}
-use lib.ListN.{length, get_or, take, drop, length-append, length-take, drop_of_length-le, get_or-append}
-use lib.Seq.{drop-cons, get_or-take, get_or-drop}
+use lib.ListN.{length, get_or, take, drop, length-append, length-map, length-take, drop_of_length-le, get_or-append}
+use Rattle.std.proofs.lemmas.List.{get_or-map}
+use lib.Seq.{drop-cons, get_or-take, get_or-drop, length-take-le}
 use lib.Dec.{eqb, leb}
 use borrow.Author.Tests.{eq-eqb, ne_eqb, eqb-true, eqb-false, leb-true, leb-false}
 use Rattle.text.specs.Bytes.{Text, slash}
@@ -20,9 +21,10 @@ use Rattle.path.specs.Path.{is_some}
 use Rattle.join.specs.Join.{joint, push_of, slash_if}
 use Rattle.text.proofs.Picks.{by_test}
 use Rattle.book.specs.Record.{record_path_of}
-use Rattle.book.specs.Index.{AcceptedAs}
+use Rattle.book.specs.Index.{index_at, no_row, path_in, AcceptedAs}
+use Rattle.book.specs.declared.IndexRow.{IndexRow}
 use Rattle.book.specs.Find.{find, is_dir, config_path, locate}
-use Rattle.records.specs.Paths.{rows_from, path_table}
+use Rattle.records.specs.Paths.{path_table}
 use Rattle.records.specs.Looks.{Unlike, Passed}
 
 -- Comparing with p and then a tail
@@ -110,25 +112,25 @@ module _ (q p : Text) (apart b : Bool) (e : b ≡ prefix_of p q) where
 
 -- Rows whose byte k is another than x, or whose byte m is another than y, begin with no text that has these bytes
 
-module _ (text w : Text) (starts : List ℕ) (n i : ℕ) where
-  pub passed_none : i ≤ n → Passed text starts n w i i
-  passed_none h = record { onward = omega arith; within = h; other = λ j h l len. absurd (omega (arith, h, l)) }
+module _ (text w : Text) (rows : List IndexRow) (i : ℕ) where
+  pub passed_none : i ≤ length rows → Passed text rows w i i
+  passed_none h = record { onward = omega arith; within = h; other = λ j h l. absurd (omega (arith, h, l)) }
 
-  begins_other : (x k : ℕ) → k < length w → get_or w k 0 ≡ x → (start : ℕ) → (get_or text (start + k) 0 ≡ x → ⊥) → (len : ℕ) → prefix_of w (take len (drop start text)) ≡ false
-  begins_other x k h y start d len =
-      by_test (leb len k)
-      (λ t. sym (prefix_short w (take len (drop start text)) (omega (arith, leb-true len k t, length-take len (drop start text)))))
-      (λ f. prefix_differs w (take len (drop start text)) k h (λ e. d (sym (get_or-take len (drop start text) k 0 (leb-false len k f) ∙ get_or-drop start text k 0) ∙ e ∙ y)))
+  begins_other : (x k : ℕ) → k < length w → get_or w k 0 ≡ x → (row : IndexRow) → (get_or text (row.start + k) 0 ≡ x → ⊥) → prefix_of w (path_in text row) ≡ false
+  begins_other x k h y row d =
+      by_test (leb row.len k)
+      (λ t. sym (prefix_short w (path_in text row) (omega (arith, leb-true row.len k t, length-take row.len (drop row.start text)))))
+      (λ f. prefix_differs w (path_in text row) k h (λ e. d (sym (get_or-take row.len (drop row.start text) k 0 (leb-false row.len k f) ∙ get_or-drop row.start text k 0) ∙ e ∙ y)))
 
-  passed_unlike : (x k y m : ℕ) → k < length w → get_or w k 0 ≡ x → m < length w → get_or w m 0 ≡ y → (r : ℕ) → Unlike text starts n x k y m i r → Passed text starts n w i r
+  passed_unlike : (x k y m : ℕ) → k < length w → get_or w k 0 ≡ x → m < length w → get_or w m 0 ≡ y → (r : ℕ) → Unlike text rows x k y m i r → Passed text rows w i r
   passed_unlike x k y m h e l f r a =
       record {
         onward = a.onward;
         within = a.within;
         other = λ j b c.
-            by_test (eqb (get_or text (get_or starts j 0 + k) 0) x)
-            (λ t. begins_other y m l f (get_or starts j 0) (a.other j b c (eqb-true (get_or text (get_or starts j 0 + k) 0) x t)))
-            (λ u. begins_other x k h e (get_or starts j 0) (eqb-false (get_or text (get_or starts j 0 + k) 0) x u));
+            by_test (eqb (get_or text ((index_at rows j).start + k) 0) x)
+            (λ t. begins_other y m l f (index_at rows j) (a.other j b c (eqb-true (get_or text ((index_at rows j).start + k) 0) x t)))
+            (λ u. begins_other x k h e (index_at rows j) (eqb-false (get_or text ((index_at rows j).start + k) 0) x u));
       }
 
 -- the bytes of p and then the tail, after a slash where it is to stand apart
@@ -137,10 +139,10 @@ byte_after : (p t : Text) (j : ℕ) → get_or (p ++ t) (length p + j) 0 ≡ get
 byte_after [] t j = let z : 0 + j ≡ j = omega arith in ap (λ (m : ℕ). get_or t m 0) z
 byte_after (x ∷ p) t j = let z : suc (length p) + j ≡ suc (length p + j) = omega arith in ap (λ (m : ℕ). get_or (x ∷ (p ++ t)) m 0) z ∙ byte_after p t j
 
-module _ (text p tail : Text) (apart : Bool) (starts : List ℕ) (n i k r : ℕ) where
-  pub passed_front : k < length p → (m : ℕ) → m ≡ k - 1 → Unlike text starts n (get_or p k 0) k (get_or p m 0) m i r → Passed text starts n (p ++ (slash_if apart ++ tail)) i r
+module _ (text p tail : Text) (apart : Bool) (rows : List IndexRow) (i k r : ℕ) where
+  pub passed_front : k < length p → (m : ℕ) → m ≡ k - 1 → Unlike text rows (get_or p k 0) k (get_or p m 0) m i r → Passed text rows (p ++ (slash_if apart ++ tail)) i r
   passed_front h m e a =
-      passed_unlike text (p ++ (slash_if apart ++ tail)) starts n i (get_or p k 0) k (get_or p m 0) m
+      passed_unlike text (p ++ (slash_if apart ++ tail)) rows i (get_or p k 0) k (get_or p m 0) m
       (within k h) (get_or-append p (slash_if apart ++ tail) 0 k h)
       (within m (omega (arith, e, h))) (get_or-append p (slash_if apart ++ tail) 0 m (omega (arith, e, h)))
       r a
@@ -156,11 +158,11 @@ module _ (text p tail : Text) (apart : Bool) (starts : List ℕ) (n i k r : ℕ)
           ap (λ (m : ℕ). get_or (p ++ (slash_if apart ++ tail)) m 0) (sym z) ∙ byte_after p (slash_if apart ++ tail) (length (slash_if apart) + j) ∙ byte_after (slash_if apart) tail j,
         )
 
-    pub passed_tail : (j : ℕ) → k ≡ at + j → j < length tail → (m : ℕ) → m ≡ j - 1 → Unlike text starts n (get_or tail j 0) k (get_or tail m 0) (at + m) i r → Passed text starts n (p ++ (slash_if apart ++ tail)) i r
+    pub passed_tail : (j : ℕ) → k ≡ at + j → j < length tail → (m : ℕ) → m ≡ j - 1 → Unlike text rows (get_or tail j 0) k (get_or tail m 0) (at + m) i r → Passed text rows (p ++ (slash_if apart ++ tail)) i r
     passed_tail j d l m g a =
         let x = in_tail j k d l in
         let y = in_tail m (at + m) (omega arith) (omega (arith, g, l)) in
-        passed_unlike text (p ++ (slash_if apart ++ tail)) starts n i (get_or tail j 0) k (get_or tail m 0) (at + m) x.0 x.1 y.0 y.1 r a
+        passed_unlike text (p ++ (slash_if apart ++ tail)) rows i (get_or tail j 0) k (get_or tail m 0) (at + m) x.0 x.1 y.0 y.1 r a
 
 -- The first of the table's rows
 
@@ -179,98 +181,78 @@ unfolding find find_from
 find_from_lem w [] = refl
 find_from_lem w (q ∷ qs) = by_test (same_text w q) (λ t. rw t refl) (λ f. rw f (ap (option_map suc) (find_from_lem w qs) ∙ find_suc 0 w qs))
 
-module _ (text : Text) (starts lens : List ℕ) (n : ℕ) where
+module _ (text : Text) (rows : List IndexRow) where
   -- the paths from row i on
   abbrev pub rest : ℕ → List Text
-  rest i = rows_from text starts lens i (n - i)
+  rest i = map (path_in text) (drop i rows)
 
-  rest_all : rest 0 ≡ path_table text starts lens n
-  rest_all = let z : n - 0 ≡ n = omega arith in ap (rows_from text starts lens 0) z
+  rest_none : (i : ℕ) → length rows ≤ i → rest i ≡ []
+  rest_none i h = ap (map (path_in text)) (drop_of_length-le rows h)
 
-  rest_none : (i : ℕ) → n ≤ i → rest i ≡ []
-  unfolding rows_from
-  rest_none i h = let z : n - i ≡ 0 = omega arith in ap (rows_from text starts lens i) z
-
-  module _ (i : ℕ) (h : i < n) (q : Text) (e : q ≡ take (get_or lens i 0) (drop (get_or starts i 0) text)) where
+  module _ (i : ℕ) (h : i < length rows) (q : Text) (e : q ≡ path_in text (index_at rows i)) where
     rest_row : rest i ≡ q ∷ rest (i + 1)
-    unfolding rows_from
-    rest_row =
-        let z : n - i ≡ suc (n - (i + 1)) = omega arith in
-        ap (rows_from text starts lens i) z ∙ ap₂ (λ (x : Text) (j : ℕ). x ∷ rows_from text starts lens j (n - (i + 1))) (sym e) (sym (add-one i))
+    rest_row = ap (map (path_in text)) (drop-cons rows i _ h) ∙ ap₂ (λ (x : Text) (j : ℕ). x ∷ rest j) (sym e) (sym (add-one i))
 
   module _ (w : Text) where
     -- rows that do not begin with w are passed over by a search that skips each of them
     module _ {X : Type 0} (f : ℕ → List Text → X) (skips : (i : ℕ) (q : Text) (qs : List Text) → prefix_of w q ≡ false → f i (q ∷ qs) ≡ f (suc i) qs) where
-      past : (d i r : ℕ) → i + d ≡ r → Passed text starts n w i r → f i (rest i) ≡ f r (rest r)
+      past : (d i r : ℕ) → i + d ≡ r → Passed text rows w i r → f i (rest i) ≡ f r (rest r)
       past zero i r e a = let z : i ≡ r = omega arith in ap (λ (j : ℕ). f j (rest j)) z
       past (suc d) i r e a =
-          ap (f i) (rest_row i (omega (arith, e, a.within)) (take (get_or lens i 0) (drop (get_or starts i 0) text)) refl)
-          ∙ skips i _ _ (a.other i (omega (arith, e)) (omega arith) (get_or lens i 0))
+          ap (f i) (rest_row i (omega (arith, e, a.within)) (path_in text (index_at rows i)) refl)
+          ∙ skips i _ _ (a.other i (omega (arith, e)) (omega arith))
           ∙ ap (λ (j : ℕ). f j (rest (i + 1))) (sym (add-one i))
           ∙ past d (i + 1) r (omega (arith, e)) (record { onward = omega (arith, e); within = a.within; other = λ j h l. a.other j h (omega (arith, l)) })
 
-      passed : (i r : ℕ) → Passed text starts n w i r → f i (rest i) ≡ f r (rest r)
+      passed : (i r : ℕ) → Passed text rows w i r → f i (rest i) ≡ f r (rest r)
       passed i r a = past (r - i) i r (omega (arith, a.onward)) a
 
-    find_passed : (i r : ℕ) → Passed text starts n w i r → find_from i w (rest i) ≡ find_from r w (rest r)
+    find_passed : (i r : ℕ) → Passed text rows w i r → find_from i w (rest i) ≡ find_from r w (rest r)
     unfolding find_from
     find_passed i r a = passed (λ (j : ℕ) (qs : List Text). find_from j w qs) (λ j q qs f. rw (same_other w q f) refl) i r a
 
-    pub find_start : find w (path_table text starts lens n) ≡ find_from 0 w (rest 0)
-    find_start = find_from_lem w (path_table text starts lens n) ∙ ap (find_from 0 w) (sym rest_all)
+    pub find_start : find w (path_table text rows) ≡ find_from 0 w (rest 0)
+    find_start = find_from_lem w (path_table text rows)
 
-    module _ (i c : ℕ) (a : Passed text starts n w i c) (all : find w (path_table text starts lens n) ≡ find_from i w (rest i)) where
-      there : find w (path_table text starts lens n) ≡ find_from c w (rest c)
+    module _ (i c : ℕ) (a : Passed text rows w i c) (all : find w (path_table text rows) ≡ find_from i w (rest i)) where
+      there : find w (path_table text rows) ≡ find_from c w (rest c)
       there = all ∙ find_passed i c a
 
-      pub find_none : n ≤ c → None ≡ find w (path_table text starts lens n)
+      pub find_none : length rows ≤ c → None ≡ find w (path_table text rows)
       unfolding find_from
       find_none h = sym (there ∙ ap (find_from c w) (rest_none c h))
 
-      module _ (h : c < n) (q : Text) (e : q ≡ take (get_or lens c 0) (drop (get_or starts c 0) text)) (b : Bool) (d : b ≡ same_text w q) where
-        pub find_here : b ≡ true → Some c ≡ find w (path_table text starts lens n)
+      module _ (h : c < length rows) (q : Text) (e : q ≡ path_in text (index_at rows c)) (b : Bool) (d : b ≡ same_text w q) where
+        pub find_here : b ≡ true → Some c ≡ find w (path_table text rows)
         unfolding find_from
         find_here y = sym (there ∙ ap (find_from c w) (rest_row c h q e) ∙ rw (← d, y) refl)
 
-        pub find_on : b ≡ false → find w (path_table text starts lens n) ≡ find_from (c + 1) w (rest (c + 1))
+        pub find_on : b ≡ false → find w (path_table text rows) ≡ find_from (c + 1) w (rest (c + 1))
         unfolding find_from
         find_on y = there ∙ ap (find_from c w) (rest_row c h q e) ∙ (rw (← d, y) (ap (λ (m : ℕ). find_from m w (rest (c + 1))) (sym (add-one c))))
 
-    some_passed : (i r : ℕ) → Passed text starts n w i r → some_of (prefix_of w) (rest i) ≡ some_of (prefix_of w) (rest r)
+    some_passed : (i r : ℕ) → Passed text rows w i r → some_of (prefix_of w) (rest i) ≡ some_of (prefix_of w) (rest r)
     unfolding some_of
     some_passed i r a = passed (λ (j : ℕ) (qs : List Text). some_of (prefix_of w) qs) (λ j q qs f. rw f refl) i r a
 
-    pub some_start : (r : ℕ) → Passed text starts n w 0 r → some_of (prefix_of w) (path_table text starts lens n) ≡ some_of (prefix_of w) (rest r)
-    some_start r a = ap (some_of (prefix_of w)) (sym rest_all) ∙ some_passed 0 r a
+    pub some_start : (r : ℕ) → Passed text rows w 0 r → some_of (prefix_of w) (path_table text rows) ≡ some_of (prefix_of w) (rest r)
+    some_start r a = some_passed 0 r a
 
-    module _ (i : ℕ) (h : i < n) (q : Text) (e : q ≡ take (get_or lens i 0) (drop (get_or starts i 0) text)) where
-      module _ (b : Bool) (d : b ≡ prefix_of w q) (all : some_of (prefix_of w) (path_table text starts lens n) ≡ some_of (prefix_of w) (rest i)) where
-        pub some_here : b ≡ true → true ≡ some_of (prefix_of w) (path_table text starts lens n)
+    module _ (i : ℕ) (h : i < length rows) (q : Text) (e : q ≡ path_in text (index_at rows i)) where
+      module _ (b : Bool) (d : b ≡ prefix_of w q) (all : some_of (prefix_of w) (path_table text rows) ≡ some_of (prefix_of w) (rest i)) where
+        pub some_here : b ≡ true → true ≡ some_of (prefix_of w) (path_table text rows)
         unfolding some_of
         some_here y = sym (all ∙ ap (some_of (prefix_of w)) (rest_row i h q e) ∙ rw (← d, y) refl)
 
-        pub some_on : b ≡ false → (r : ℕ) → Passed text starts n w (i + 1) r → some_of (prefix_of w) (path_table text starts lens n) ≡ some_of (prefix_of w) (rest r)
+        pub some_on : b ≡ false → (r : ℕ) → Passed text rows w (i + 1) r → some_of (prefix_of w) (path_table text rows) ≡ some_of (prefix_of w) (rest r)
         unfolding some_of
         some_on y r a = all ∙ ap (some_of (prefix_of w)) (rest_row i h q e) ∙ (rw (← d, y) refl) ∙ some_passed (i + 1) r a
 
-  pub some_none : (ok : Text → Bool) (i : ℕ) → n ≤ i → some_of ok (path_table text starts lens n) ≡ some_of ok (rest i) → false ≡ some_of ok (path_table text starts lens n)
+  pub some_none : (ok : Text → Bool) (i : ℕ) → length rows ≤ i → some_of ok (path_table text rows) ≡ some_of ok (rest i) → false ≡ some_of ok (path_table text rows)
   unfolding some_of
   some_none ok i h all = sym (all ∙ ap (some_of ok) (rest_none i h))
 
 -- What is found is a row
-
-rows_length : (text : Text) (starts lens : List ℕ) (i k : ℕ) → length (rows_from text starts lens i k) ≡ k
-unfolding rows_from
-rows_length text starts lens i zero = refl
-rows_length text starts lens i (suc k) = ap suc (rows_length text starts lens (suc i) k)
-
-row_is : (text : Text) (starts lens : List ℕ) (i k j : ℕ) → j < k → get_or (rows_from text starts lens i k) j [] ≡ take (get_or lens (i + j) 0) (drop (get_or starts (i + j) 0) text)
-unfolding rows_from
-row_is text starts lens i zero j h = absurd (omega (arith, h))
-row_is text starts lens i (suc k) zero h = rw add-zero refl
-row_is text starts lens i (suc k) (suc j) h =
-    let z : suc i + j ≡ i + suc j = omega arith in
-    row_is text starts lens (suc i) k j (omega (arith, h)) ∙ ap (λ (m : ℕ). take (get_or lens m 0) (drop (get_or starts m 0) text)) z
 
 found_in : (w : Text) (qs : List Text) (i j : ℕ) → Some j ≡ find_from i w qs → (i ≤ j) × (j < i + length qs)
 unfolding find_from
@@ -280,18 +262,18 @@ found_in w (q ∷ qs) i j e =
     (λ t. let k : j ≡ i = (let x : Some j ≡ Some i = rw t at e in cc) in omega arith)
     (λ f. let ih : (suc i ≤ j) × (j < suc i + length qs) = found_in w qs (suc i) j (rw f at e) in omega arith)
 
-module _ (text : Text) (starts lens : List ℕ) (n : ℕ) where
+module _ (text : Text) (rows : List IndexRow) where
   -- the number is that of a row
-  pub find_within : (w : Text) (j : ℕ) → Some j ≡ find w (path_table text starts lens n) → j < n
-  find_within w j e = omega (arith, found_in w (path_table text starts lens n) 0 j (e ∙ find_from_lem w (path_table text starts lens n)), rows_length text starts lens 0 n)
+  pub find_within : (w : Text) (j : ℕ) → Some j ≡ find w (path_table text rows) → j < length rows
+  find_within w j e = omega (arith, found_in w (path_table text rows) 0 j (e ∙ find_from_lem w (path_table text rows)), length-map rows (path_in text))
 
-  pub locate_within : (p : Text) (j : ℕ) → Some j ≡ locate (path_table text starts lens n) p → j < n
+  pub locate_within : (p : Text) (j : ℕ) → Some j ≡ locate (path_table text rows) p → j < length rows
   unfolding locate
-  locate_within p j e = find_within (config_path (path_table text starts lens n) p) j e
+  locate_within p j e = find_within (config_path (path_table text rows) p) j e
 
   -- a record's path, by its number
-  pub path_row : (i : ℕ) → i < n → get_or (path_table text starts lens n) i [] ≡ take (get_or lens i 0) (drop (get_or starts i 0) text)
-  path_row i h = let z : 0 + i ≡ i = omega arith in row_is text starts lens 0 n i h ∙ ap (λ (m : ℕ). take (get_or lens m 0) (drop (get_or starts m 0) text)) z
+  pub path_row : (i : ℕ) → i < length rows → get_or (path_table text rows) i [] ≡ path_in text (index_at rows i)
+  path_row i h = get_or-map (path_in text) rows i _ [] h
 
 -- The asked path
 
@@ -330,14 +312,16 @@ module _ (table : List Text) (p : Text) where
 
 -- The table of an accepted book
 
-module _ (commands text : Text) (begins starts lens : List ℕ) (n : ℕ) (a : AcceptedAs commands text begins starts lens n) where
-  rows_are : (k i : ℕ) → i + k ≡ n → rows_from text starts lens i k ≡ map (record_path_of text) (drop i a.records)
-  unfolding rows_from
-  rows_are zero i h = let l : length a.records ≤ i = omega (arith, h, a.size) in rw (drop_of_length-le a.records l) refl
-  rows_are (suc k) i h =
-      rw (drop-cons a.records i [] (omega (arith, h, a.size)))
-      (ap₂ (λ (x : Text) (xs : List Text). x ∷ xs) (a.rows i (omega (arith, h))).path (rows_are k (suc i) (omega (arith, h))))
+module _ (commands text : Text) (rows : List IndexRow) (n : ℕ) (h : n ≤ length rows) (a : AcceptedAs commands text rows n) where
+  cut : length (take n rows) ≡ n
+  cut = length-take-le n rows h
+
+  paths_are : (k i : ℕ) → i + k ≡ n → map (path_in text) (drop i (take n rows)) ≡ map (record_path_of text) (drop i a.records)
+  paths_are zero i e = ap (map (path_in text)) (drop_of_length-le (take n rows) (omega (arith, e, cut))) ∙ sym (ap (map (record_path_of text)) (drop_of_length-le a.records (omega (arith, e, a.size))))
+  paths_are (suc k) i e =
+      rw (drop-cons a.records i [] (omega (arith, e, a.size)), drop-cons (take n rows) i no_row (omega (arith, e, cut)), get_or-take n rows i no_row (omega (arith, e)))
+      (ap₂ (λ (x : Text) (xs : List Text). x ∷ xs) (a.each i (omega (arith, e))).path (paths_are k (suc i) (omega (arith, e))))
 
   -- the paths are the records'
-  pub table_paths : path_table text starts lens n ≡ map (record_path_of text) a.records
-  table_paths = rows_are n 0 (omega arith)
+  pub table_paths : path_table text (take n rows) ≡ map (record_path_of text) a.records
+  table_paths = paths_are n 0 (omega arith)

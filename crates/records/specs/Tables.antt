@@ -6,4 +6,4 @@ use Rattle.records.specs.declared.PathTable.{PathTable}
 
 -- the paths, in order
 abbrev pub paths_in : PathTable → List Text
-paths_in t = path_table t.text.now t.starts.now t.lens.now t.count
+paths_in t = path_table t.text.now t.rows.now

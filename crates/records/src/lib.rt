@@ -1,15 +1,16 @@
 // Reading a checked book: the records by their paths.
 #![tactic(auto)]
 
-ghost use Rattle.std.specs.Prelude.{◌≡◌, [], IfSome, ◌&&◌, ◌+◌, ◌-◌, ◌<◌, ◌≤◌, eqb, length, get_or, take, drop};
+ghost use Rattle.std.specs.Prelude.{◌≡◌, [], IfSome, ◌&&◌, ◌+◌, ◌-◌, ◌<◌, ◌≤◌, eqb, length, get_or};
 ghost use Rattle.text.specs.Text.{prefix_of, same_text, some_of};
 ghost use Rattle.names.specs.Names.{tsconfig_json};
 ghost use Rattle.join.specs.Join.{push_of, slash_if};
 ghost use Rattle.book.specs.Find.{find, is_dir, locate};
+ghost use Rattle.book.specs.Index.{index_at, path_in};
 ghost use Rattle.records.specs.Joined.{path_of, head_of};
 ghost use Rattle.records.specs.Looks.{Unlike, Passed};
 
-use book::piece;
+use book::{IndexRow, piece};
 use components::is_absolute;
 use join::wants_slash;
 use text::{SLASH, from, starts_with};
@@ -81,15 +82,11 @@ fn agrees(text: &[u8], a: usize, x: u8, b: usize, y: u8) -> bool
     text[a] == x && text[b] == y
 }
 
-// The paths of a book's records: where each begins in the text, and its length.
+// The paths of a book's records, by the rows of its index.
 #[derive(Clone, Copy)]
 pub struct PathTable<'a> {
     pub text: &'a [u8],
-    pub starts: &'a [usize],
-    pub lens: &'a [usize],
-    pub count: usize,
-    pub ghost starts_there: { count ≤ length starts.now },
-    pub ghost lens_there: { count ≤ length lens.now },
+    pub rows: &'a [IndexRow],
 }
 
 impl<'a> PathTable<'a> {
@@ -97,34 +94,34 @@ impl<'a> PathTable<'a> {
 
     // The path of record i.
     pub fn path(&self, i: usize) -> &'a [u8]
-        requires { i < self.now.count }
-        ensures { result.now ≡ take (get_or self.now.lens.now i 0) (drop (get_or self.now.starts.now i 0) self.now.text.now) }
+        requires { i < length self.now.rows.now }
+        ensures { result.now ≡ path_in self.now.text.now (index_at self.now.rows.now i) }
     {
-        piece(self.text, self.starts[i], self.lens[i])
+        piece(self.text, self.rows[i].start, self.rows[i].len)
     }
 
     // The first row from i on whose byte k may be x and whose byte m may be y.
     fn next_like(&self, i: usize, x: u8, k: usize, y: u8, m: usize) -> usize
-        requires { (i ≤ self.now.count) × (m ≤ k) }
-        ensures { Unlike self.now.text.now self.now.starts.now self.now.count x k y m i result }
+        requires { (i ≤ length self.now.rows.now) × (m ≤ k) }
+        ensures { Unlike self.now.text.now self.now.rows.now x k y m i result }
     {
         if self.text.len() < k {
             return i;
         }
         let end = self.text.len() - k;
-        for j in i..self.count {
-            let start = self.starts[j];
+        for j in i..self.rows.len() {
+            let start = self.rows[j].start;
             if end <= start || agrees(self.text, start + k, x, start + m, y) {
                 return j;
             }
         }
-        self.count
+        self.rows.len()
     }
 
     // The first row from i on that may begin with p. Only the byte k and the one before it are looked at, and none where k is the slash.
     fn next_joined(&self, i: usize, p: &Joined<'_>, k: usize) -> usize
-        requires { i ≤ self.now.count }
-        ensures { Passed self.now.text.now self.now.starts.now self.now.count (path_of p.now) i result }
+        requires { i ≤ length self.now.rows.now }
+        ensures { Passed self.now.text.now self.now.rows.now (path_of p.now) i result }
     {
         if k < p.front.len() {
             let m = k.saturating_sub(1);
@@ -148,7 +145,7 @@ impl<'a> PathTable<'a> {
         // No walk over the rows: each look goes on behind the last, with other bytes.
         loop {
             let c = self.next_joined(i, p, k);
-            if self.count <= c {
+            if self.rows.len() <= c {
                 return None;
             }
             let q = self.path(c);
@@ -167,7 +164,7 @@ impl<'a> PathTable<'a> {
     {
         let k = p.front.len().saturating_sub(1);
         let mut i = self.next_joined(0, p, k);
-        while i < self.count {
+        while i < self.rows.len() {
             if p.leads(self.path(i)) {
                 return true;
             }

@@ -1,4 +1,4 @@
-use Rattle.std.proofs.Common.{◌≡◌, ◌-◌, ◌≤◌}
+use Rattle.std.proofs.Common.{◌≡◌, ◌-◌, ◌≤◌, length}
 use Rattle.text.specs.Text.{prefix_of, some_of}
 use Rattle.records.specs.Joined.{head_of}
 use Rattle.records.specs.Tables.{paths_in}
@@ -7,9 +7,9 @@ use Rattle.records.proofs.PathTable.is_some_inside.Given as goal
 
 abbrev pub invariant-loop-i : goal.invariant-loop-i
 invariant-loop-i l = record {
-  within : l.i ≤ l.self.count;
-  left : some_of (prefix_of (head_of l.p)) (paths_in l.self) ≡ some_of (prefix_of (head_of l.p)) (rest l.self.text.now l.self.starts.now l.self.lens.now l.self.count l.i);
+  within : l.i ≤ length l.self.rows.now;
+  left : some_of (prefix_of (head_of l.p)) (paths_in l.self) ≡ some_of (prefix_of (head_of l.p)) (rest l.self.text.now l.self.rows.now l.i);
 }
 
 abbrev pub decreases-loop-i : goal.decreases-loop-i
-decreases-loop-i l = l.self.count - l.i
+decreases-loop-i l = length l.self.rows.now - l.i

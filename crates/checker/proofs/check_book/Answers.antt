@@ -1,8 +1,9 @@
 use mathlib.Core.Path.{refl, ap, ◌∙◌}
 use Rattle.compare.specs.Compare.{digest_of}
 use Rattle.checker.proofs.Books.{booked_none, booked_end, booked_on, size_commands, size_text}
-use Rattle.checker.proofs.check_tables.Goals.{then-commands-gt-MOST_COMMANDS-via-then-commands-gt-MOST_COMMANDS, then-commands-gt-MOST_COMMANDS-via-else-commands-gt-MOST_COMMANDS+then-text-gt-MOST_TEXT}
-use Rattle.checker.proofs.check_tables.Goals as goal
+use Rattle.checker.proofs.check_book.Goals.{then-commands-gt-MOST_COMMANDS-via-then-commands-gt-MOST_COMMANDS, then-commands-gt-MOST_COMMANDS-via-else-commands-gt-MOST_COMMANDS+then-text-gt-MOST_TEXT}
+use borrow.Author.Rules.{rules}
+use Rattle.checker.proofs.check_book.Goals as goal
 
 pub returns-then-commands-gt-MOST_COMMANDS : goal.returns-then-commands-gt-MOST_COMMANDS
 returns-then-commands-gt-MOST_COMMANDS c =
@@ -12,7 +13,7 @@ returns-then-commands-gt-MOST_COMMANDS c =
     ]
 
 pub loop-at-init : goal.loop-at-init
-loop-at-init c = booked_none _ _ c.if-commands-gt-MOST_COMMANDS.false c.if-text-gt-MOST_TEXT.false _ _ _ _ c.requires.0 c.requires.1.0 c.requires.1.1 refl
+loop-at-init c = booked_none _ _ c.if-commands-gt-MOST_COMMANDS.false c.if-text-gt-MOST_TEXT.false _ _ (search rules) refl
 
 pub loop-at-preserved : goal.loop-at-preserved
 loop-at-preserved c = booked_on _ _ c.loop-at.invariant _ c.from.ensures _ c.check_record.ensures _ c.in_ok-c.was _ (c.digest.ensures ∙ ap digest_of c.piece.ensures)
