@@ -1,4 +1,5 @@
 -- What the config of a row says once it is built, of what the test reads. Assumes nothing.
+use Rattle.book.specs.Index.{begin_of}
 use mathlib.Core.Path.{◌≡◌, refl, sym, ap, ◌∙◌}
 use mathlib.Core.List.{List, map}
 use mathlib.Core.Bool.{Bool, true, false, not, ◌&&◌, true≢false}
@@ -45,44 +46,44 @@ module _ (b : CheckedBook) (row : List ℕ) (w : Row (records_in b) row) where
   abbrev dir : Text
   dir = parent_of site.path
 
-  dir_of_own : dir ≡ dir_of b.paths.text.now (read b.commands.now (get_or b.begins.now (number_of row) 0))
-  dir_of_own = ap parent_of (site_path b.commands.now b.paths.text.now b.begins.now b.records row w)
+  dir_of_own : dir ≡ dir_of b.paths.text.now (read b.commands.now (begin_of b.paths.rows.now (number_of row)))
+  dir_of_own = ap parent_of (site_path b.commands.now b.paths.text.now b.paths.rows.now b.records row w)
 
-  pub field_none : (f : Field) → None ≡ begin_at b.begins.now row (slot f) → site.config.named f ≡ None
-  field_none f e = site_none b.commands.now b.paths.text.now b.begins.now b.records row w dir dir_of_own site.config.base refl f e
+  pub field_none : (f : Field) → None ≡ begin_at b.paths.rows.now row (slot f) → site.config.named f ≡ None
+  field_none f e = site_none b.commands.now b.paths.text.now b.paths.rows.now b.records row w dir dir_of_own site.config.base refl f e
 
   -- A field, at the record that supplies it
 
   module _ (r : Record) (c : r.commands.now ≡ b.commands.now) (t : r.text.now ≡ b.paths.text.now) where
-    module _ (f : Field) (p : plain f ≡ true) (e : Some r.at ≡ begin_at b.begins.now row (slot f)) where
+    module _ (f : Field) (p : plain f ≡ true) (e : Some r.at ≡ begin_at b.paths.rows.now row (slot f)) where
       field_said : is_some (said r.text.now (read r.commands.now r.at) f) ≡ true
       field_said =
-          let n = found_place b.begins.now row (slot f) r.at e in
+          let n = found_place b.paths.rows.now row (slot f) r.at e in
           let i = supplier row f in
-          let own = read b.commands.now (get_or b.begins.now i 0) in
-          let y = record_says b.commands.now b.paths.text.now b.begins.now b.records i (supplier_there b.commands.now b.paths.text.now b.begins.now b.records row w f n) f ∙ map_plain (dir_of b.paths.text.now own) f p (said b.paths.text.now own f) in
-          rw (c, t, found_rec b.begins.now row (slot f) r.at e) (ap is_some (sym y) ∙ w.named f n)
+          let own = read b.commands.now (begin_of b.paths.rows.now i) in
+          let y = record_says b.commands.now b.paths.text.now b.paths.rows.now b.records i (supplier_there b.commands.now b.paths.text.now b.paths.rows.now b.records row w f n) f ∙ map_plain (dir_of b.paths.text.now own) f p (said b.paths.text.now own f) in
+          rw (c, t, found_rec b.paths.rows.now row (slot f) r.at e) (ap is_some (sym y) ∙ w.named f n)
 
       field_some : site.config.named f ≡ option_map (built_value dir site.config.base f) (said r.text.now (read r.commands.now r.at) f)
-      field_some = rw (c, t) (site_plain b.commands.now b.paths.text.now b.begins.now b.records row w dir dir_of_own site.config.base refl f p r.at e)
+      field_some = rw (c, t) (site_plain b.commands.now b.paths.text.now b.paths.rows.now b.records row w dir dir_of_own site.config.base refl f p r.at e)
 
     -- its strings, built in the directory
     abbrev built : ℕ → List Text
     built op = map (adjusted dir dir) (strings r.text.now op (read r.commands.now r.at))
 
-    pub files_some : Some r.at ≡ begin_at b.begins.now row 0 → site.config.named files ≡ Some (built 3)
+    pub files_some : Some r.at ≡ begin_at b.paths.rows.now row 0 → site.config.named files ≡ Some (built 3)
     unfolding slot plain said built_value
     files_some e = field_some files refl e ∙ rw (list_there r.text.now (read r.commands.now r.at) 2 3 (field_said files refl e))
 
-    pub include_some : Some r.at ≡ begin_at b.begins.now row 1 → site.config.named include ≡ Some (built 5)
+    pub include_some : Some r.at ≡ begin_at b.paths.rows.now row 1 → site.config.named include ≡ Some (built 5)
     unfolding slot plain said built_value
     include_some e = field_some include refl e ∙ rw (list_there r.text.now (read r.commands.now r.at) 4 5 (field_said include refl e))
 
-    pub exclude_some : Some r.at ≡ begin_at b.begins.now row 2 → site.config.named exclude ≡ Some (built 7)
+    pub exclude_some : Some r.at ≡ begin_at b.paths.rows.now row 2 → site.config.named exclude ≡ Some (built 7)
     unfolding slot plain said built_value
     exclude_some e = field_some exclude refl e ∙ rw (list_there r.text.now (read r.commands.now r.at) 6 7 (field_said exclude refl e))
 
-    pub flag_some : Some r.at ≡ begin_at b.begins.now row 16 → site.config.named (flag 8) ≡ flag_of 8 (read r.commands.now r.at)
+    pub flag_some : Some r.at ≡ begin_at b.paths.rows.now row 16 → site.config.named (flag 8) ≡ flag_of 8 (read r.commands.now r.at)
     unfolding slot plain said built_value
     flag_some e = field_some (flag 8) refl e ∙ same_flag (flag_of 8 (read r.commands.now r.at))
 

@@ -5,6 +5,7 @@
 
 ghost use Rattle.std.specs.Prelude.{◌<◌, ◌≤◌};
 
+use book::IndexRow;
 use checker::check_book;
 use lists::{Tally, byte_at, long_at, triple_at, word_at};
 use streams::{fail, read_file, say, say_number};
@@ -67,25 +68,21 @@ impl Verdict {
     }
 }
 
-// The sum of the first n rows of an index.
-fn index_sum(n: usize, begins: &[usize; 64], starts: &[usize; 64], lens: &[usize; 64]) -> usize {
-    let mut sum = 1;
-    for i in 0..n.min(64) {
-        sum = fold(fold(fold(sum, begins[i]), starts[i]), lens[i]);
-    }
-    sum
+// The sum of the rows of an index.
+fn index_sum(rows: &[IndexRow]) -> usize {
+    rows.iter().fold(1, |sum, row| {
+        fold(fold(fold(sum, row.begin), row.start), row.len)
+    })
 }
 
 fn judge(commands: &[u8], text: &[u8]) -> Verdict {
-    let mut begins = [0usize; 64];
-    let mut starts = [0usize; 64];
-    let mut lens = [0usize; 64];
-    match check_book(commands, text, &mut begins, &mut starts, &mut lens) {
+    let mut index = [IndexRow::NONE; 64];
+    match check_book(commands, text, &mut index) {
         Ok(count) => Verdict {
             number: 0,
             place: 0,
             count,
-            index: index_sum(count, &begins, &starts, &lens),
+            index: index_sum(&index[..count.min(64)]),
         },
         Err(refusal) => Verdict {
             number: refusal.fault.number() as usize,

@@ -16,6 +16,7 @@ use Rattle.record.specs.Lists.{strings_left}
 use Rattle.record.specs.declared.lists.Strings.{Strings}
 use Rattle.record.specs.declared.place.Record.{Record}
 use Rattle.book.specs.Index as index
+use Rattle.book.specs.Index.{begin_of, index_at, path_in}
 use Rattle.book.specs.Find.{locate}
 use Rattle.book.specs.Sound.{All, nil, cons, Good, Sound}
 use Rattle.records.specs.Tables.{paths_in}
@@ -43,41 +44,41 @@ path_short text [] nil = omega arith
 path_short text (c ∷ r) (cons g h) = by_test (is begin c) (λ t. rw t (good_short text c (rw (g.range, g.string) refl))) (λ f. rw f (path_short text r h))
 
 module _ (b : CheckedBook) where
-  pub few_records : b.paths.count ≤ 64
+  pub few_records : length b.paths.rows.now ≤ 64
   few_records = omega (arith, b.listed.size, b.records.few)
 
   -- the record c, which is there
-  module _ (c : ℕ) (inside : c < b.paths.count) where
+  module _ (c : ℕ) (inside : c < length b.paths.rows.now) where
     pub inside_records : c < length (records_in b)
     inside_records = omega (arith, inside, b.listed.size)
 
-    pub begin_there : c < length b.begins.now
+    pub begin_there : c < length b.paths.rows.now
     begin_there = omega (arith, inside, b.listed.size, b.records.there)
 
-    pub record_sound : Sound b.paths.text.now (index.record_at b.commands.now (get_or b.begins.now c 0))
+    pub record_sound : Sound b.paths.text.now (index.record_at b.commands.now (begin_of b.paths.rows.now c))
     record_sound = b.records.sound c inside_records
 
-    path_is : path_at (records_in b) c ≡ record_path_of b.paths.text.now (index.record_at b.commands.now (get_or b.begins.now c 0))
+    path_is : path_at (records_in b) c ≡ record_path_of b.paths.text.now (index.record_at b.commands.now (begin_of b.paths.rows.now c))
     unfolding parsed parse
     path_is = ap (λ (r : Parsed). r.path) (b.records.reads c inside_records)
 
-    extended_is : (record_at (records_in b) c).extended ≡ strings b.paths.text.now extends (index.record_at b.commands.now (get_or b.begins.now c 0))
+    extended_is : (record_at (records_in b) c).extended ≡ strings b.paths.text.now extends (index.record_at b.commands.now (begin_of b.paths.rows.now c))
     unfolding parsed parse
     extended_is = ap (λ (r : Parsed). r.extended) (b.records.reads c inside_records)
 
-    pub references_are : (record_at (records_in b) c).references ≡ strings b.paths.text.now reference (index.record_at b.commands.now (get_or b.begins.now c 0))
+    pub references_are : (record_at (records_in b) c).references ≡ strings b.paths.text.now reference (index.record_at b.commands.now (begin_of b.paths.rows.now c))
     unfolding parsed parse
     references_are = ap (λ (r : Parsed). r.references) (b.records.reads c inside_records)
 
     -- the row of the table of paths
-    pub row_is : take (get_or b.paths.lens.now c 0) (drop (get_or b.paths.starts.now c 0) b.paths.text.now) ≡ path_at (records_in b) c
+    pub row_is : path_in b.paths.text.now (index_at b.paths.rows.now c) ≡ path_at (records_in b) c
     row_is =
-        sym (path_row b.paths.text.now b.paths.starts.now b.paths.lens.now b.paths.count c inside)
+        sym (path_row b.paths.text.now b.paths.rows.now c inside)
         ∙ ap (λ (l : List Text). get_or l c []) b.listed.paths
         ∙ get_or-map (λ (r : Parsed). r.path) (records_in b) c blank
 
     pub dir_short : length (parent_of (path_at (records_in b) c)) ≤ 512
-    dir_short = omega (arith, parent_le (path_at (records_in b) c), ap length path_is, path_short b.paths.text.now (index.record_at b.commands.now (get_or b.begins.now c 0)) record_sound.each)
+    dir_short = omega (arith, parent_le (path_at (records_in b) c), ap length path_is, path_short b.paths.text.now (index.record_at b.commands.now (begin_of b.paths.rows.now c)) record_sound.each)
 
     module _ (dir : Text) (e : dir ≡ parent_of (path_at (records_in b) c)) where
       -- what a path from the record's directory means
@@ -86,21 +87,21 @@ module _ (b : CheckedBook) where
       meant_is s = ap₂ (λ (l : List Text) (d : Text). locate l (normalize_with d s)) b.listed.paths e
 
       -- the entries that were read
-      pub entries_read : (es : Entries) → entries_of (take es.count es.all) ≡ map (entry_at (paths_in b.paths) dir) (strings b.paths.text.now extends (index.record_at b.commands.now (get_or b.begins.now c 0))) → All (Inside b.paths.count) (take es.count es.all) → EntriesOf (records_in b) c es
+      pub entries_read : (es : Entries) → entries_of (take es.count es.all) ≡ map (entry_at (paths_in b.paths) dir) (strings b.paths.text.now extends (index.record_at b.commands.now (begin_of b.paths.rows.now c))) → All (Inside (length b.paths.rows.now)) (take es.count es.all) → EntriesOf (records_in b) c es
       entries_read es r a =
           record {
             entries =
                 r
-                ∙ ap₂ (λ (l : List Text) (d : Text). map (entry_at l d) (strings b.paths.text.now extends (index.record_at b.commands.now (get_or b.begins.now c 0)))) b.listed.paths e
+                ∙ ap₂ (λ (l : List Text) (d : Text). map (entry_at l d) (strings b.paths.text.now extends (index.record_at b.commands.now (begin_of b.paths.rows.now c)))) b.listed.paths e
                 ∙ ap₂ (λ (g : Text → line.Entry) (l : List Text). map g l) (fun_ext (entry_is (records_in b) c)) (sym extended_is);
             inside = subst (λ (n : ℕ). All (Inside n) (take es.count es.all)) (sym b.listed.size) a;
           }
 
 -- the record as the code reads it
-module _ (b : CheckedBook) (c : ℕ) (inside : c < b.paths.count) (r : Record) (at : r.at ≡ get_or b.begins.now c 0) (commands : r.commands.now ≡ b.commands.now) (text : r.text.now ≡ b.paths.text.now) where
+module _ (b : CheckedBook) (c : ℕ) (inside : c < length b.paths.rows.now) (r : Record) (at : r.at ≡ begin_of b.paths.rows.now c) (commands : r.commands.now ≡ b.commands.now) (text : r.text.now ≡ b.paths.text.now) where
   -- its strings with a byte of which there are few
   module _ (it : Strings) (same : it.record ≡ r) where
-    pub strings_are : (op : ℕ) → it.op ≡ op → strings_left it ≡ strings b.paths.text.now op (index.record_at b.commands.now (get_or b.begins.now c 0))
+    pub strings_are : (op : ℕ) → it.op ≡ op → strings_left it ≡ strings b.paths.text.now op (index.record_at b.commands.now (begin_of b.paths.rows.now c))
     strings_are op e = rw (e, same, text, commands, at) refl
 
 -- there are no more of them than may be

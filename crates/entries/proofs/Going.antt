@@ -61,19 +61,19 @@ module _ (paths : List Text) (dir s : Text) where
         ∙ by_test (eqb (get_or s 0 0) slash) (λ t. rw t refl) (λ f. let n = eqb-false (get_or s 0 0) slash f in rw (f, eq-eqb (get_or s 0 0) dot (omega (arith, l, u, n))) refl))
 
 -- what it leads to is a record of the table
-leads_inside : (t : PathTable) (dir s : Text) (e : Entry) → entry_of e ≡ entry_at (paths_in t) dir s → Inside t.count e
+leads_inside : (t : PathTable) (dir s : Text) (e : Entry) → entry_of e ≡ entry_at (paths_in t) dir s → Inside (length t.rows.now) e
 unfolding entry_at
 leads_inside t dir s e q = record { inside = λ i l. go s i (sym q ∙ ap entry_of l) }
   where
-    reached_in : (w : Text) (i : ℕ) (o : Option ℕ) → o ≡ locate (paths_in t) w → reached o ≡ line.leads i → i < t.count
+    reached_in : (w : Text) (i : ℕ) (o : Option ℕ) → o ≡ locate (paths_in t) w → reached o ≡ line.leads i → i < length t.rows.now
     reached_in w i None f h = let z : ⊥ = cc in absurd z
-    reached_in w i (Some j) f h = let z : j ≡ i = cc in omega (arith, z, locate_within t.text.now t.starts.now t.lens.now t.count w j f)
+    reached_in w i (Some j) f h = let z : j ≡ i = cc in omega (arith, z, locate_within t.text.now t.rows.now w j f)
 
-    led_in : (w : Text) (i : ℕ) (b : Bool) → cond b (reached (locate (paths_in t) w)) line.bare ≡ line.leads i → i < t.count
+    led_in : (w : Text) (i : ℕ) (b : Bool) → cond b (reached (locate (paths_in t) w)) line.bare ≡ line.leads i → i < length t.rows.now
     led_in w i true h = reached_in w i (locate (paths_in t) w) refl h
     led_in w i false h = let z : ⊥ = cc in absurd z
 
-    go : (s : Text) (i : ℕ) → entry_at (paths_in t) dir s ≡ line.leads i → i < t.count
+    go : (s : Text) (i : ℕ) → entry_at (paths_in t) dir s ≡ line.leads i → i < length t.rows.now
     go [] i h = let z : ⊥ = cc in absurd z
     go (x ∷ s) i h = led_in (normalize_with dir (x ∷ s)) i (led x) h
 
@@ -119,7 +119,7 @@ all_head x ys (cons p h) = p
 
 pub record Reading (book : CheckedBook) (dir : Text) (given : List Text) (all : List Entry) (left : List Text) (k : ℕ) : Type 0 where
   pub rest : map (entry_at (paths_in book.paths) dir) given ≡ entries_of (take k all) ++ map (entry_at (paths_in book.paths) dir) left
-  pub inside : All (Inside book.paths.count) (take k all)
+  pub inside : All (Inside (length book.paths.rows.now)) (take k all)
   pub few : k + length left ≤ 8
   pub long : length all ≡ 8
 
@@ -147,7 +147,7 @@ module _ (book : CheckedBook) (dir : Text) (given : List Text) where
               ∙ ap (λ (x : line.Entry). entries_of (take k all) ++ (x ∷ map (entry_at (paths_in book.paths) dir) next)) (sym h)
               ∙ sym (append_assoc (entries_of (take k all)) (entry_of v ∷ []) (map (entry_at (paths_in book.paths) dir) next))
               ∙ ap (◌++ map (entry_at (paths_in book.paths) dir) next) (sym (ap entries_of more ∙ map-append entry_of (take k all) (v ∷ [])));
-          inside = subst (All (Inside book.paths.count)) (sym more) (all_join (take k all) (v ∷ []) p.inside (cons (leads_inside book.paths dir s v h) nil));
+          inside = subst (All (Inside (length book.paths.rows.now))) (sym more) (all_join (take k all) (v ∷ []) p.inside (cons (leads_inside book.paths dir s v h) nil));
           few = omega (arith, p.few, ap length e);
           long = length-set all k v ∙ p.long;
         }

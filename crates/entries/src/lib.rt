@@ -74,7 +74,7 @@ pub fn find_meant(paths: &PathTable<'_>, dir: &[u8], s: &[u8]) -> Option<usize>
 
 // The directory of the record c, by its row of the table of paths: its commands are not read for it.
 pub fn record_dir<'a>(book: &CheckedBook<'a>, c: usize) -> &'a [u8]
-    requires { c < book.now.paths.count }
+    requires { c < length book.now.paths.rows.now }
     ensures value { result.now ≡ parent_of (path_at (records_in book.now) c) }
     ensures short { length result.now ≤ 512 }
 {
@@ -98,7 +98,7 @@ fn read_entry(book: &CheckedBook<'_>, dir: &[u8], s: &[u8]) -> Entry
 
 // The extends entries of the record c.
 fn read_entries(book: &CheckedBook<'_>, c: usize) -> Entries
-    requires { c < book.now.paths.count }
+    requires { c < length book.now.paths.rows.now }
     ensures { EntriesOf (records_in book.now) c result }
 {
     let dir = record_dir(book, c);
@@ -127,7 +127,7 @@ fn unread(entries: &[Entry]) -> Option<Fault>
 
 // Opens the record c: its extends entries, none of which is refused as it is read, and its own row.
 pub fn open_record(book: &CheckedBook<'_>, c: usize) -> Result<Opened, Refusal>
-    requires { c < book.now.paths.count }
+    requires { c < length book.now.paths.rows.now }
     ensures ok { IfOk result (OpenedAs (records_in book.now) c) }
     ensures err { IfErr result (RefusedAs (records_in book.now) c) }
 {
@@ -135,6 +135,6 @@ pub fn open_record(book: &CheckedBook<'_>, c: usize) -> Result<Opened, Refusal>
     if let Some(fault) = unread(entries.as_slice()) {
         return Err(Refusal { fault, place: c });
     }
-    let row = own_row(book.commands, book.begins[c], c as u8);
+    let row = own_row(book.commands, book.paths.rows[c].begin, c as u8);
     Ok(Opened { entries, row })
 }

@@ -1,4 +1,5 @@
 -- The listing of a row of suppliers is what its suppliers say, field by field. Assumes nothing.
+use Rattle.book.specs.Index.{begin_of}
 use mathlib.Core.Path.{◌≡◌, refl, sym, ap, ◌∙◌}
 use mathlib.Core.List.{List, [], ◌∷◌, ◌++◌, map, append_assoc, append-nil}
 use mathlib.Core.Bool.{true, true≢false}
@@ -92,33 +93,33 @@ by_parts references c =
 module _ (b : CheckedBook) (row : List ℕ) (w : Row (records_in b) row) where
   said_there : (f : Field) (r : Record) → Supplied b row (slot f) (Some r) → is_some (said r.text.now (read r.commands.now r.at) f) ≡ true
   said_there f r s =
-      let n = found_place b.begins.now row (slot f) r.at s.at in
+      let n = found_place b.paths.rows.now row (slot f) r.at s.at in
       let i = supplier row f in
-      let l = read b.commands.now (get_or b.begins.now i 0) in
+      let l = read b.commands.now (begin_of b.paths.rows.now i) in
       let ce : r.commands.now ≡ b.commands.now = s.commands in
       let te : r.text.now ≡ b.paths.text.now = s.text in
-      rw (ce, te, found_rec b.begins.now row (slot f) r.at s.at)
+      rw (ce, te, found_rec b.paths.rows.now row (slot f) r.at s.at)
       (sym (some_map (placed_value (dir_of b.paths.text.now l) f) (said b.paths.text.now l f))
-      ∙ sym (ap is_some (record_says b.commands.now b.paths.text.now b.begins.now b.records i (supplier_there b.commands.now b.paths.text.now b.begins.now b.records row w f n) f))
+      ∙ sym (ap is_some (record_says b.commands.now b.paths.text.now b.paths.rows.now b.records i (supplier_there b.commands.now b.paths.text.now b.paths.rows.now b.records row w f n) f))
       ∙ w.named f n)
 
   -- The row's own record
 
-  pub own_there : {X : Type 0} → None ≡ begin_at b.begins.now row own_place → X
-  own_there e = absurd (omega (arith, found_none b.begins.now row own_place e, w.own, b.records.few))
+  pub own_there : {X : Type 0} → None ≡ begin_at b.paths.rows.now row own_place → X
+  own_there e = absurd (omega (arith, found_none b.paths.rows.now row own_place e, w.own, b.records.few))
 
   module _ (r : Record) (s : Supplied b row own_place (Some r)) where
     pub own_dir : parent_of (fields.record_path_of r.text.now (read r.commands.now r.at)) ≡ parent_of (site_of (records_in b) row).path
     own_dir =
         let ce : r.commands.now ≡ b.commands.now = s.commands in
         let te : r.text.now ≡ b.paths.text.now = s.text in
-        rw (ce, te, found_rec b.begins.now row own_place r.at s.at) (ap parent_of (sym (site_path b.commands.now b.paths.text.now b.begins.now b.records row w)))
+        rw (ce, te, found_rec b.paths.rows.now row own_place r.at s.at) (ap parent_of (sym (site_path b.commands.now b.paths.text.now b.paths.rows.now b.records row w)))
 
     pub own_references : strings r.text.now command.reference (read r.commands.now r.at) ≡ (record_at (records_in b) (number_of row)).references
     own_references =
         let ce : r.commands.now ≡ b.commands.now = s.commands in
         let te : r.text.now ≡ b.paths.text.now = s.text in
-        rw (ce, te, found_rec b.begins.now row own_place r.at s.at) (sym (record_references b.commands.now b.paths.text.now b.begins.now b.records (number_of row) w.own))
+        rw (ce, te, found_rec b.paths.rows.now row own_place r.at s.at) (sym (record_references b.commands.now b.paths.text.now b.paths.rows.now b.records (number_of row) w.own))
 
   -- The fields
 
@@ -186,27 +187,27 @@ module _ (b : CheckedBook) (row : List ℕ) (w : Row (records_in b) row) where
 
   -- How long it may be: there is always room to count it
 
-  supplied_by : (k : ℕ) → k < 28 → (x : Option ℕ) → x ≡ begin_at b.begins.now row k → Option Record
+  supplied_by : (k : ℕ) → k < 28 → (x : Option ℕ) → x ≡ begin_at b.paths.rows.now row k → Option Record
   supplied_by k l None e = None
   supplied_by k l (Some rec) e =
       Some (record {
         commands = b.commands;
         text = b.paths.text;
         at = rec;
-        good = place_good b.commands.now b.paths.text.now b.begins.now b.records row k rec (place_there b.commands.now b.paths.text.now b.begins.now b.records row w k l) e;
+        good = place_good b.commands.now b.paths.text.now b.paths.rows.now b.records row k rec (place_there b.commands.now b.paths.text.now b.paths.rows.now b.records row w k l) e;
       })
 
-  is_supplied : (k : ℕ) (l : k < 28) (x : Option ℕ) (e : x ≡ begin_at b.begins.now row k) → Supplied b row k (supplied_by k l x e)
+  is_supplied : (k : ℕ) (l : k < 28) (x : Option ℕ) (e : x ≡ begin_at b.paths.rows.now row k) → Supplied b row k (supplied_by k l x e)
   unfolding supplied_by
   is_supplied k l None e = record { at = e; commands = tt; text = tt }
   is_supplied k l (Some rec) e = record { at = e; commands = refl; text = refl }
 
   pub supplies : (k : ℕ) → k < 28 → Option Record
-  supplies k l = supplied_by k l (begin_at b.begins.now row k) refl
+  supplies k l = supplied_by k l (begin_at b.paths.rows.now row k) refl
 
   pub is_there : (k : ℕ) (l : k < 28) → Supplied b row k (supplies k l)
   unfolding supplies
-  is_there k l = is_supplied k l (begin_at b.begins.now row k) refl
+  is_there k l = is_supplied k l (begin_at b.paths.rows.now row k) refl
 
 fits : (b : CheckedBook) (row : List ℕ) (k : ℕ) (x : Option Record) → Supplied b row k x → IfSome x Fits
 fits b row k None s = tt

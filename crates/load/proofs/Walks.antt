@@ -195,7 +195,7 @@ module _ (book : CheckedBook) (on : List Bool) (c : ℕ) (es : List Entry) (x : 
         pub bring_next : BringPre book table on v merges
         bring_next = record {
           table = w.pre.table;
-          inside = (all_head (get_or left j d) [] (all_after (take j left) (get_or left j d ∷ []) (subst (All (Inside book.paths.count)) (last_split left j d h) w.pre.entries))).inside v (sym i ∙ l);
+          inside = (all_head (get_or left j d) [] (all_after (take j left) (get_or left j d ∷ []) (subst (All (Inside (length book.paths.rows.now))) (last_split left j d h) w.pre.entries))).inside v (sym i ∙ l);
           few = omega (arith, w.pre.few);
         }
 
@@ -218,7 +218,7 @@ module _ (book : CheckedBook) (on : List Bool) (c : ℕ) (es : List Entry) (x : 
                   ∙ ap₂ (walks (records_in book) on c (take j left)) (sym (ap (config_of (records_in book)) f ∙ merge_config (records_in book) book.records.few row far.row w.pre.row brought.row)) (sym (state_counted (records_in book) new far.merges));
               pre = record {
                 table = brought.table;
-                entries = all_before (take j left) (get_or left j d ∷ []) (subst (All (Inside book.paths.count)) (last_split left j d h) w.pre.entries);
+                entries = all_before (take j left) (get_or left j d ∷ []) (subst (All (Inside (length book.paths.rows.now))) (last_split left j d h) w.pre.entries);
                 row = subst (Row (records_in book)) (sym f) (merge_is_row (records_in book) book.records.few row far.row w.pre.row brought.row);
                 own = ap row_number f ∙ merge_number (records_in book) book.records.few row far.row w.pre.row brought.row ∙ w.pre.own;
                 few = omega (arith, w.pre.few, brought.few, h, length-take j left);
@@ -282,7 +282,7 @@ module _ (rs : List Parsed) (on : List Bool) (c : ℕ) (inside : c < length rs) 
 pub walk_start : (book : CheckedBook) (t : List (Option (List ℕ))) (on : List Bool) (c m : ℕ) → length on ≡ 64 → LoadPre book t on c m → get_or on c false ≡ false → (o : Opened) → OpenedAs (records_in book) c o → (es : List Entry) → es ≡ take o.entries.count o.entries.all → WalkPre book t (set on c true) c es o.row m
 walk_start book t on c m long p off o q es is = record {
   table = p.table;
-  entries = subst (All (Inside book.paths.count)) (sym is) (subst (λ (n : ℕ). All (Inside n) (take o.entries.count o.entries.all)) book.listed.size q.entries.inside);
+  entries = subst (All (Inside (length book.paths.rows.now))) (sym is) (subst (λ (n : ℕ). All (Inside n) (take o.entries.count o.entries.all)) book.listed.size q.entries.inside);
   row = q.row;
   own = q.own;
   few = omega (arith, p.few, ap length is, length-take o.entries.count o.entries.all, o.entries.few, pending_falls on t c (omega (arith, p.inside, few_records book)) long off p.fresh);

@@ -73,14 +73,14 @@ walks rs on c es x s = walk (load (seen rs) (on_of on)) c (reverse (entries_of e
 -- what the load of the record c asks
 pub record LoadPre (book : CheckedBook) (t : List (Option (List ℕ))) (on : List Bool) (c m : ℕ) : Type 0 where
   pub table : Table (records_in book) t
-  pub inside : c < book.paths.count
+  pub inside : c < length book.paths.rows.now
   pub fresh : held t c ≡ None
   pub few : m + 8 * pending on t ≤ 65536
 
 -- what the walk over entries of the record c asks
 pub record WalkPre (book : CheckedBook) (t : List (Option (List ℕ))) (on : List Bool) (c : ℕ) (es : List Entry) (x : List ℕ) (m : ℕ) : Type 0 where
   pub table : Table (records_in book) t
-  pub entries : All (Inside book.paths.count) es
+  pub entries : All (Inside (length book.paths.rows.now)) es
   pub row : Row (records_in book) x
   pub own : number_of x ≡ c
   pub few : m + length es + 8 * pending on t ≤ 65536
@@ -88,5 +88,5 @@ pub record WalkPre (book : CheckedBook) (t : List (Option (List ℕ))) (on : Lis
 -- what bringing the record v asks
 pub record BringPre (book : CheckedBook) (t : List (Option (List ℕ))) (on : List Bool) (v m : ℕ) : Type 0 where
   pub table : Table (records_in book) t
-  pub inside : v < book.paths.count
+  pub inside : v < length book.paths.rows.now
   pub few : m + 8 * pending on t ≤ 65536

@@ -1,4 +1,5 @@
 -- The aliases and the candidates of a row's config. Assumes nothing.
+use Rattle.book.specs.Index.{begin_of}
 use Rattle.std.proofs.Common.{◌≡◌, ℕ, ◌≤◌, ◌<◌, Bool, true, false, List, [], ◌∷◌, map, length, get_or, Option, Some, None, IfSome, option_map, refl, sym, ap, ◌∙◌, true≢false, arith}
 use Rattle.std.specs.Prelude.{unwrap_or}
 use Rattle.text.specs.Bytes.{Text, dot}
@@ -71,22 +72,22 @@ module _ (b : CheckedBook) (row : List ℕ) (w : Row (records_in b) row) where
 
   -- what `supplier` asks for, at each place
   pub place_asks : (k : ℕ) → k < 28 → (get_or row k 255 ≡ 255 → ⊥) → get_or row k 255 < length (records_in b)
-  place_asks k h = place_there s text b.begins.now b.records row w k h
+  place_asks k h = place_there s text b.paths.rows.now b.records row w k h
 
-  pub dir_is : dir_at b row ≡ dir_of text (read s (get_or b.begins.now (number_of row) 0))
-  dir_is = ap parent_of (site_path s text b.begins.now b.records row w)
+  pub dir_is : dir_at b row ≡ dir_of text (read s (begin_of b.paths.rows.now (number_of row)))
+  dir_is = ap parent_of (site_path s text b.paths.rows.now b.records row w)
 
   pub dir_at_short : length (dir_at b row) ≤ 512
-  dir_at_short = rw dir_is (dir_short (record_path_of text (read s (get_or b.begins.now (number_of row) 0))) (path_short text (read s (get_or b.begins.now (number_of row) 0)) (good_each text _ (own_sound s text b.begins.now b.records row w).each)))
+  dir_at_short = rw dir_is (dir_short (record_path_of text (read s (begin_of b.paths.rows.now (number_of row)))) (path_short text (read s (begin_of b.paths.rows.now (number_of row))) (good_each text _ (own_sound s text b.paths.rows.now b.records row w).each)))
 
   -- the record that a place has names the field
-  pub said_some : (f : Field) (rec : ℕ) → Some rec ≡ begin_at b.begins.now row (slot f) → is_some (said text (read s rec) f) ≡ true
+  pub said_some : (f : Field) (rec : ℕ) → Some rec ≡ begin_at b.paths.rows.now row (slot f) → is_some (said text (read s rec) f) ≡ true
   said_some f rec e =
-      let n = found_place b.begins.now row (slot f) rec e in
-      let z : rec ≡ get_or b.begins.now (supplier row f) 0 = found_rec b.begins.now row (slot f) rec e in
-      let h = record_says s text b.begins.now b.records (supplier row f) (supplier_there s text b.begins.now b.records row w f n) f in
+      let n = found_place b.paths.rows.now row (slot f) rec e in
+      let z : rec ≡ begin_of b.paths.rows.now (supplier row f) = found_rec b.paths.rows.now row (slot f) rec e in
+      let h = record_says s text b.paths.rows.now b.records (supplier row f) (supplier_there s text b.paths.rows.now b.records row w f n) f in
       ap (λ (j : ℕ). is_some (said text (read s j) f)) z
-      ∙ sym (is_some_map (placed_value (dir_of text (read s (get_or b.begins.now (supplier row f) 0))) f) (said text (read s (get_or b.begins.now (supplier row f) 0)) f))
+      ∙ sym (is_some_map (placed_value (dir_of text (read s (begin_of b.paths.rows.now (supplier row f)))) f) (said text (read s (begin_of b.paths.rows.now (supplier row f))) f))
       ∙ sym (ap is_some h) ∙ w.named f n
 
 -- The aliases
@@ -100,17 +101,17 @@ module _ (b : CheckedBook) (row : List ℕ) (base spec : Text) (at : ℕ) (a : A
   dotted k e t = rw (← e, t)
 
   module _ (k : Bool) (e : k ≡ starts dot spec) (n : k ≡ false) where
-    pub unmapped : None ≡ begin_at b.begins.now row 4 → aliases config spec ≡ []
+    pub unmapped : None ≡ begin_at b.paths.rows.now row 4 → aliases config spec ≡ []
     unfolding aliases from_paths slot
     unmapped q =
-        let y : config.named paths ≡ None = site_none (s b row a.sound) (text b row a.sound) b.begins.now b.records row a.sound (dir_at b row) (dir_is b row a.sound) base a.base_is paths q in
+        let y : config.named paths ≡ None = site_none (s b row a.sound) (text b row a.sound) b.paths.rows.now b.records row a.sound (dir_at b row) (dir_is b row a.sound) base a.base_is paths q in
         rw (← e, n, y)
 
-    module _ (rec : ℕ) (q : Some rec ≡ begin_at b.begins.now row 4) where
+    module _ (rec : ℕ) (q : Some rec ≡ begin_at b.paths.rows.now row 4) where
       named_is : config.named paths ≡ Some (map (built_key (dir_at b row) base) (keys_of b.paths.text.now (read b.commands.now rec)))
       unfolding slot built_value said plain
       named_is =
-          site_plain b.commands.now b.paths.text.now b.begins.now b.records row a.sound (dir_at b row) (dir_is b row a.sound) base a.base_is paths refl rec q
+          site_plain b.commands.now b.paths.text.now b.paths.rows.now b.records row a.sound (dir_at b row) (dir_is b row a.sound) base a.base_is paths refl rec q
           ∙ ap (option_map (map (built_key (dir_at b row) base))) (mapping_some b.paths.text.now (read b.commands.now rec) (said_some b row a.sound paths rec q))
 
       pub mapped : from_paths spec (Some (map (built_key (dir_at b row) base) (keys_of b.paths.text.now (read b.commands.now rec)))) ≡ aliases config spec
@@ -119,24 +120,24 @@ module _ (b : CheckedBook) (row : List ℕ) (base spec : Text) (at : ℕ) (a : A
 
       mapped_few : Few 32768 (aliases config spec)
       mapped_few =
-          let good = place_good b.commands.now b.paths.text.now b.begins.now b.records row 4 rec (place_asks b row a.sound 4 (omega arith)) q in
+          let good = place_good b.commands.now b.paths.text.now b.paths.rows.now b.records row 4 rec (place_asks b row a.sound 4 (omega arith)) q in
           rw (← mapped)
           (paths_few b.paths.text.now (dir_at b row) base spec 32768 (dir_at_short b row a.sound) a.base_short a.spec_short (read b.commands.now rec) good (omega (arith, record_length b.commands.now rec, b.records.small)))
 
     -- they are not many, nor long
     pub aliases_few : Few 32768 (aliases config spec)
-    aliases_few = by_found (begin_at b.begins.now row 4) refl
+    aliases_few = by_found (begin_at b.paths.rows.now row 4) refl
       where
-        by_found : (x : Option ℕ) → x ≡ begin_at b.begins.now row 4 → Few 32768 (aliases config spec)
+        by_found : (x : Option ℕ) → x ≡ begin_at b.paths.rows.now row 4 → Few 32768 (aliases config spec)
         by_found None z = few_none (unmapped z)
         by_found (Some rec) z = mapped_few rec z
 
   -- What baseUrl gives
 
-  pub base_unnamed : None ≡ begin_at b.begins.now row 3 → from_base_url config spec (config.named base_url) ≡ []
+  pub base_unnamed : None ≡ begin_at b.paths.rows.now row 3 → from_base_url config spec (config.named base_url) ≡ []
   unfolding from_base_url slot
   base_unnamed q =
-      let x : config.named base_url ≡ None = site_none b.commands.now b.paths.text.now b.begins.now b.records row a.sound (dir_at b row) (dir_is b row a.sound) base a.base_is base_url q in
+      let x : config.named base_url ≡ None = site_none b.commands.now b.paths.text.now b.paths.rows.now b.records row a.sound (dir_at b row) (dir_is b row a.sound) base a.base_is base_url q in
       rw x
 
   from_base : (c : Settings) (v : Option Text) → is_some v ≡ true → from_base_url c spec v ≡ normalize_with c.base spec ∷ []
@@ -144,10 +145,10 @@ module _ (b : CheckedBook) (row : List ℕ) (base spec : Text) (at : ℕ) (a : A
   from_base c None e = absurd (true≢false (sym e))
   from_base c (Some v) e = refl
 
-  pub base_named : (rec : ℕ) → Some rec ≡ begin_at b.begins.now row 3 → from_base_url config spec (config.named base_url) ≡ normalize_with base spec ∷ []
+  pub base_named : (rec : ℕ) → Some rec ≡ begin_at b.paths.rows.now row 3 → from_base_url config spec (config.named base_url) ≡ normalize_with base spec ∷ []
   unfolding slot built_value said plain
   base_named rec q =
-      let x = site_plain b.commands.now b.paths.text.now b.begins.now b.records row a.sound (dir_at b row) (dir_is b row a.sound) base a.base_is base_url refl rec q in
+      let x = site_plain b.commands.now b.paths.text.now b.paths.rows.now b.records row a.sound (dir_at b row) (dir_is b row a.sound) base a.base_is base_url refl rec q in
       let n : is_some (config.named base_url) ≡ true = ap is_some x ∙ is_some_map (built_value (dir_at b row) base base_url) (said b.paths.text.now (read b.commands.now rec) base_url) ∙ said_some b row a.sound base_url rec q in
       from_base config (config.named base_url) n ∙ ap (λ (t : Text). normalize_with t spec ∷ []) (sym a.base_is)
 

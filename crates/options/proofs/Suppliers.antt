@@ -1,4 +1,5 @@
 -- What a row's config says of a field, read at the record that supplies it. Assumes nothing.
+use Rattle.book.specs.Index.{begin_of}
 use Rattle.std.proofs.Common.{length, ◌≡◌, ℕ, suc, ◌+◌, ◌-◌, ◌<◌, ◌≤◌, List, [], ◌++◌, Bool, true, false, get_or, Option, Some, None, Bor, refl, sym, ap, ◌∙◌, arith, add-one}
 use Rattle.std.specs.Prelude.{option_map, option_copied, IfSome}
 use mathlib.Core.List.{append_assoc}
@@ -20,12 +21,12 @@ use Rattle.options.specs.Options.{flag_at, text_at}
 
 -- x is the record that stands at the place of the row, if there is one
 pub record Supplied (b : CheckedBook) (row : List ℕ) (k : ℕ) (x : Option Record) : Type 0 where
-  pub at : option_map (λ (r : Record). r.at) x ≡ begin_at b.begins.now row k
+  pub at : option_map (λ (r : Record). r.at) x ≡ begin_at b.paths.rows.now row k
   pub commands : IfSome x (λ r. r.commands.now ≡ b.commands.now)
   pub text : IfSome x (λ r. r.text.now ≡ b.paths.text.now)
 
 pub supplied :
-    (b : CheckedBook) (row : List ℕ) (k : ℕ) (x : Option Record) → option_map (λ (r : Record). r.at) x ≡ begin_at b.begins.now row k →
+    (b : CheckedBook) (row : List ℕ) (k : ℕ) (x : Option Record) → option_map (λ (r : Record). r.at) x ≡ begin_at b.paths.rows.now row k →
     IfSome x (λ r. r.commands.now ≡ b.commands.now) → IfSome x (λ r. r.text.now ≡ b.paths.text.now) → Supplied b row k x
 supplied b row k x e c t = record { at = e; commands = c; text = t }
 
@@ -35,7 +36,7 @@ config_in b row = (site_of (records_in b) row).config
 
 -- what stands at a place of the row is a record of the book
 pub in_book : (b : CheckedBook) (row : List ℕ) → Row (records_in b) row → (k : ℕ) → k < 28 → (get_or row k absent ≡ absent → ⊥) → get_or row k absent < length (records_in b)
-in_book b row w k l = place_there b.commands.now b.paths.text.now b.begins.now b.records row w k l
+in_book b row w k l = place_there b.commands.now b.paths.text.now b.paths.rows.now b.records row w k l
 
 built_flag : (dir base : Text) (id : ℕ) (o : Option Bool) → option_map (built_value dir base (flag id)) o ≡ o
 unfolding built_value
@@ -51,11 +52,11 @@ built_text dir base id (Some v) = refl
 
 module _ (b : CheckedBook) (row : List ℕ) (w : Row (records_in b) row) where
   module _ (dir : Text) (d : dir ≡ parent_of (site_of (records_in b) row).path) (base : Text) (bs : base ≡ (config_in b row).base) (f : Field) where
-    here : dir ≡ dir_of b.paths.text.now (read b.commands.now (get_or b.begins.now (number_of row) 0))
-    here = d ∙ ap parent_of (site_path b.commands.now b.paths.text.now b.begins.now b.records row w)
+    here : dir ≡ dir_of b.paths.text.now (read b.commands.now (begin_of b.paths.rows.now (number_of row)))
+    here = d ∙ ap parent_of (site_path b.commands.now b.paths.text.now b.paths.rows.now b.records row w)
 
     pub none_at : Supplied b row (slot f) None → (config_in b row).named f ≡ None
-    none_at s = site_none b.commands.now b.paths.text.now b.begins.now b.records row w dir here base bs f s.at
+    none_at s = site_none b.commands.now b.paths.text.now b.paths.rows.now b.records row w dir here base bs f s.at
 
     pub some_at :
         (r : Record) → Supplied b row (slot f) (Some r) →
@@ -63,13 +64,13 @@ module _ (b : CheckedBook) (row : List ℕ) (w : Row (records_in b) row) where
     some_at r s =
         let ce : r.commands.now ≡ b.commands.now = s.commands in
         let te : r.text.now ≡ b.paths.text.now = s.text in
-        rw (ce, te) (site_at_lem b.commands.now b.paths.text.now b.begins.now b.records row w dir here base bs f r.at s.at)
+        rw (ce, te) (site_at_lem b.commands.now b.paths.text.now b.paths.rows.now b.records row w dir here base bs f r.at s.at)
 
     pub plain_at : plain f ≡ true → (r : Record) → Supplied b row (slot f) (Some r) → (config_in b row).named f ≡ option_map (built_value dir base f) (said r.text.now (read r.commands.now r.at) f)
     plain_at p r s =
         let ce : r.commands.now ≡ b.commands.now = s.commands in
         let te : r.text.now ≡ b.paths.text.now = s.text in
-        rw (ce, te) (site_plain b.commands.now b.paths.text.now b.begins.now b.records row w dir here base bs f p r.at s.at)
+        rw (ce, te) (site_plain b.commands.now b.paths.text.now b.paths.rows.now b.records row w dir here base bs f p r.at s.at)
 
   abbrev dir : Text
   dir = parent_of (site_of (records_in b) row).path

@@ -95,8 +95,8 @@ module _ (book : CheckedBook) (path d : Text) (f : Option ℕ) (e : f ≡ find (
 
   module _ (c : ℕ) (h : f ≡ Some c) where
     -- the number is that of a record
-    pub folder_inside : c < book.paths.count
-    folder_inside = find_within book.paths.text.now book.paths.starts.now book.paths.lens.now book.paths.count (push_of d tsconfig_json) c (sym h ∙ e)
+    pub folder_inside : c < length book.paths.rows.now
+    folder_inside = find_within book.paths.text.now book.paths.rows.now (push_of d tsconfig_json) c (sym h ∙ e)
 
     pub folder_refused : (r : Refusal) → load_record (records_in book) c ≡ refusal r → FolderAs (records_in book) path (find (push_of d tsconfig_json) (paths_of (records_in book))) (Err r)
     unfolding owner_at

@@ -18,6 +18,7 @@ use Rattle.book.specs.Book.{verdict}
 use Rattle.book.specs.Find.{locate}
 use Rattle.book.specs.Index.{AcceptedAs}
 use Rattle.book.specs.declared.Refusal.{Refusal}
+use Rattle.book.specs.declared.IndexRow.{IndexRow}
 use Rattle.book.specs.Refusals.{number_of, refusal}
 use Rattle.records.specs.Tables.{paths_in}
 use Rattle.records.proofs.Paths.{locate_within}
@@ -50,9 +51,9 @@ module _ (commands text : Text) where
   unfolding book
   book_refused r e = rw e refl
 
-  pub book_given : (begins starts lens : List ℕ) (n : ℕ) → AcceptedAs commands text begins starts lens n → book commands text ≡ given (records_of commands text)
+  pub book_given : (rows : List IndexRow) (n : ℕ) → AcceptedAs commands text rows n → book commands text ≡ given (records_of commands text)
   unfolding book records_of
-  book_given begins starts lens n a = rw (a.accepted) refl
+  book_given rows n a = rw (a.accepted) refl
 
 -- A record that is loaded, where the question may be asked
 
@@ -68,8 +69,8 @@ module _ (b : CheckedBook) (path : Text) (ok : Bool) (e : ok ≡ true) (f : Opti
   asked_missing n = rw (e, ← located, n) refl
 
   module _ (c : ℕ) (g : f ≡ Some c) where
-    pub asked_inside : c < b.paths.count
-    asked_inside = locate_within b.paths.text.now b.paths.starts.now b.paths.lens.now b.paths.count path c (sym g ∙ h)
+    pub asked_inside : c < length b.paths.rows.now
+    asked_inside = locate_within b.paths.text.now b.paths.rows.now path c (sym g ∙ h)
 
     pub asked_found : asked_load ok (records_in b) path ≡ load_record (records_in b) c
     unfolding load_path load_found

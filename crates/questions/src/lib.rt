@@ -7,7 +7,7 @@ ghost use Rattle.replies.specs.Replies.{returned, numbers_of, Told};
 ghost use Rattle.questions.specs.Questions.{tsconfig_build, tsconfig_owner, tsconfig_candidates, tsconfig_tries};
 ghost use Rattle.questions.specs.Replies.{asked_for, asked_load, tsconfig_paths, numbers_by, Checks, LoadsAs, ToldBy, OwnerAs};
 
-use book::{Fault, Refusal};
+use book::{Fault, IndexRow, Refusal};
 use build_reply::write_listing;
 use checker::check_book;
 use owner::find_owner;
@@ -23,48 +23,19 @@ use strings::is_string;
 // What stands for no record.
 const NOBODY: usize = 65535;
 
-// The tables that the check of a book fills.
-#[derive(Drop)]
-struct Tables {
-    begins: [usize; 64],
-    starts: [usize; 64],
-    lens: [usize; 64],
-}
-
-impl Tables {
-    fn new() -> Self {
-        Tables {
-            begins: [0; 64],
-            starts: [0; 64],
-            lens: [0; 64],
-        }
-    }
-}
-
-// The book, which is checked first.
+// The book, which is checked first: the check fills the index.
 fn open_book<'a>(
     commands: &'a [u8],
     text: &'a [u8],
-    tables: &'a mut Tables,
+    index: &'a mut [IndexRow; 64],
 ) -> Result<CheckedBook<'a>, Refusal>
     ensures { Checks commands.now text.now result }
 {
-    let count = check_book(
-        commands,
-        text,
-        &mut tables.begins,
-        &mut tables.starts,
-        &mut tables.lens,
-    )?;
+    let count = check_book(commands, text, index)?;
+    let rows = &index[..count];
     Ok(CheckedBook {
         commands,
-        begins: &tables.begins,
-        paths: PathTable {
-            text,
-            starts: &tables.starts,
-            lens: &tables.lens,
-            count,
-        },
+        paths: PathTable { text, rows },
     })
 }
 
@@ -112,8 +83,8 @@ fn numbers(answer: Result<Numbers, Refusal>) -> Numbers
 fn build(commands: &[u8], text: &[u8], path: &[u8], out: &mut [u8]) -> Result<Numbers, Refusal>
     ensures { ToldBy (tsconfig_build commands.now text.now path.now (length out.old)) out.old out.new result }
 {
-    let mut tables = Tables::new();
-    let book = open_book(commands, text, &mut tables)?;
+    let mut index = [IndexRow::NONE; 64];
+    let book = open_book(commands, text, &mut index)?;
     let Project { row, merges, .. } = load_asked(&book, is_asked_path(path), path)?;
     let mut buffer = [0u8; 1600];
     let base = site_base(&book, &row, &mut buffer);
@@ -139,8 +110,8 @@ fn paths(
 ) -> Result<Numbers, Refusal>
     ensures { ToldBy (tsconfig_paths commands.now text.now path.now (option_copied directory.entry) specifier.now (length out.old)) out.old out.new result }
 {
-    let mut tables = Tables::new();
-    let book = open_book(commands, text, &mut tables)?;
+    let mut index = [IndexRow::NONE; 64];
+    let book = open_book(commands, text, &mut index)?;
     let Project { row, .. } = load_asked(&book, is_asked(path, directory, specifier), path)?;
     let mut buffer = [0u8; 1600];
     let base = site_base(&book, &row, &mut buffer);
@@ -179,8 +150,8 @@ pub fn tsconfig_tries(
 fn owner(commands: &[u8], text: &[u8], path: &[u8]) -> Result<Numbers, Refusal>
     ensures { OwnerAs (tsconfig_owner commands.now text.now path.now) result }
 {
-    let mut tables = Tables::new();
-    let book = open_book(commands, text, &mut tables)?;
+    let mut index = [IndexRow::NONE; 64];
+    let book = open_book(commands, text, &mut index)?;
     if !is_asked_path(path) {
         return Err(Refusal {
             fault: Fault::BadQuestion,

@@ -1,4 +1,5 @@
 -- The references of a config, one after the other. Assumes nothing.
+use Rattle.book.specs.Index.{begin_of}
 use mathlib.Core.Path.{◌≡◌, refl, sym, ap, ap₂, subst, ◌∙◌, fun_ext}
 use mathlib.Core.List.{List, [], ◌∷◌, ◌++◌, map-append, reverse, append_assoc, append-nil}
 use mathlib.Core.Bool.{Bool, false, not, ◌&&◌}
@@ -78,7 +79,7 @@ module _ (rs : List Parsed) (c r : ℕ) where
 pub refer_start : (book : CheckedBook) (t : List (Option (List ℕ))) (r m : ℕ) → ReferPre book t r m → (o : Opened) → OpenedAs (records_in book) r o → (es : List Entry) → es ≡ take o.entries.count o.entries.all → WalkPre book t nobody r es o.row m
 refer_start book t r m p o q es is = record {
   table = p.table;
-  entries = subst (All (Inside book.paths.count)) (sym is) (subst (λ (n : ℕ). All (Inside n) (take o.entries.count o.entries.all)) book.listed.size q.entries.inside);
+  entries = subst (All (Inside (length book.paths.rows.now))) (sym is) (subst (λ (n : ℕ). All (Inside n) (take o.entries.count o.entries.all)) book.listed.size q.entries.inside);
   row = q.row;
   own = q.own;
   few = omega (arith, p.few, ap length is, length-take o.entries.count o.entries.all, o.entries.few);
@@ -133,13 +134,13 @@ both (given more) x l k e = ap given (sym (append_assoc l (x ∷ []) more) ∙ a
 
 module _ (book : CheckedBook) (c : ℕ) where
   pub referring_start :
-      (inside : c < book.paths.count) (table : List (Option (List ℕ))) (refs : List (List ℕ)) (m : ℕ) → length refs ≡ 16 → Table (records_in book) table → m + 8 * pending nobody table ≤ 512 →
-      (left : List Text) → left ≡ strings book.paths.text.now reference (index.record_at book.commands.now (get_or book.begins.now c 0)) → Referring book c (state_of (records_in book) table m) table refs left 0 m
+      (inside : c < length book.paths.rows.now) (table : List (Option (List ℕ))) (refs : List (List ℕ)) (m : ℕ) → length refs ≡ 16 → Table (records_in book) table → m + 8 * pending nobody table ≤ 512 →
+      (left : List Text) → left ≡ strings book.paths.text.now reference (index.record_at book.commands.now (begin_of book.paths.rows.now c)) → Referring book c (state_of (records_in book) table m) table refs left 0 m
   referring_start inside table refs m l t h left e = record {
     rest =
         ap (λ (ts : List Text). references_of (records_in book) c ts (state_of (records_in book) table m)) (references_are book c inside ∙ sym e)
         ∙ given_self (references_of (records_in book) c left (state_of (records_in book) table m));
-    few = omega (arith, ap length e, few_references book.paths.text.now (index.record_at book.commands.now (get_or book.begins.now c 0)) (record_sound book c inside));
+    few = omega (arith, ap length e, few_references book.paths.text.now (index.record_at book.commands.now (begin_of book.paths.rows.now c)) (record_sound book c inside));
     rows = nil;
     long = l;
     holds = t;
@@ -163,7 +164,7 @@ module _ (book : CheckedBook) (c : ℕ) where
       referring_room = omega (arith, p.few, ap length e)
 
       -- what the next reference asks
-      pub referring_next : c < book.paths.count → ReferPre book table c made
+      pub referring_next : c < length book.paths.rows.now → ReferPre book table c made
       referring_next h = record { table = p.holds; inside = h; few = omega (arith, p.spent, referring_room) }
 
       module _ (t : List (Option (List ℕ))) (w : Result Loaded Refusal) (q : Refers (records_in book) (made + 8 + 8 * pending nobody table) (refer_to (records_in book) c (meant (records_in book) c u) (state_of (records_in book) table made)) t w) where
@@ -268,7 +269,7 @@ module _ (rs : List Parsed) where
 
 -- What the calls ask
 
-module _ (book : CheckedBook) (c : ℕ) (inside : c < book.paths.count) where
+module _ (book : CheckedBook) (c : ℕ) (inside : c < length book.paths.rows.now) where
   pub record_load : LoadPre book unloaded nobody c 0
   record_load = record { table = blank_table (records_in book); inside = inside; fresh = nothing_held 64 c; few = omega (arith, pending_few (records_in book) nobody unloaded) }
 

@@ -1,4 +1,5 @@
 -- The contracts of the load of a config's references, and of the config with them.
+use Rattle.std.specs.Prelude.{length}
 use Rattle.std.specs.Prelude.{ℕ, ◌+◌, ◌*◌, ◌<◌, ◌≤◌, ◌≡◌, List, map, Bool, false, replicate, take}
 use Rattle.std.specs.Prelude.{Option, Result, Ok, Err}
 use Rattle.book.specs.Answer.{Answer, given}
@@ -22,7 +23,7 @@ nobody = replicate 64 false
 -- what the load of the record r asks, as a reference or for its references
 pub record ReferPre (book : CheckedBook) (t : List (Option (List ℕ))) (r m : ℕ) : Type 0 where
   pub table : Table (records_in book) t
-  pub inside : r < book.paths.count
+  pub inside : r < length book.paths.rows.now
   pub few : m + 8 + 8 * pending nobody t ≤ 65536
 
 -- a reference that is loaded

@@ -95,7 +95,7 @@ fn load_references(
 
 // Loads the record c as the asked config: its extends, and its references, each to its row.
 pub fn load_record(book: &CheckedBook<'_>, c: usize) -> Result<Project, Refusal>
-    requires { c < book.now.paths.count }
+    requires { c < length book.now.paths.rows.now }
     ensures { WholeAs (records_in book.now) c result }
 {
     let mut table = [None; RECORDS];

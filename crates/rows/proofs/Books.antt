@@ -5,7 +5,9 @@ use mathlib.Core.Bool.{Bool, true, false, ◌||◌, cond}
 use Prim.Native.Nat.{ℕ, zero, suc, ◌≤◌, ◌<◌}
 use native.Mathlib.Omega.{arith}
 use lib.Dec.{ltb}
-use lib.ListN.{length, get_or, length-map}
+use lib.ListN.{length, get_or, take, length-map}
+use lib.Seq.{get_or-take, length-take-le}
+use Rattle.std.proofs.lemmas.List.{get_or-map}
 use borrow.Author.Tests.{ltb-false}
 use Rattle.text.specs.Bytes.{Text}
 use Rattle.text.proofs.Picks.{by_test}
@@ -14,7 +16,8 @@ use Rattle.book.specs.Answer.{refused, given}
 use Rattle.book.specs.Book.{verdict, judge, nothing}
 use Rattle.book.specs.Command.{decode}
 use Rattle.book.specs.Index as index
-use Rattle.book.specs.Index.{AcceptedAs}
+use Rattle.book.specs.Index.{AcceptedAs, begin_of, no_row}
+use Rattle.book.specs.declared.IndexRow.{IndexRow}
 use Rattle.book.specs.Record.{record_path_of}
 use Rattle.book.specs.Sound.{Sound}
 use Rattle.verdicts.proofs.Accepted.{accepted_sound, all_at}
@@ -29,11 +32,6 @@ no_answer e = let z : ◌≡◌ {A = ℕ} 0 1 = cc in absurd (omega (arith, z))
 or_left : (a b : Bool) → a || b ≡ false → a ≡ false
 or_left false b e = refl
 or_left true b e = e
-
-get_d_map : {A B : Type 0} (f : A → B) (l : List A) (i : ℕ) (d : B) (e : A) → i < length l → get_or (map f l) i d ≡ f (get_or l i e)
-get_d_map f [] i d e h = absurd (omega (arith, h))
-get_d_map f (x ∷ l) zero d e h = refl
-get_d_map f (x ∷ l) (suc i) d e h = get_d_map f l i d e (omega (arith, h))
 
 -- "commands (at most 32,768 bytes)"
 pub accepted_small : (commands text : Text) (rs : List (List Cmd)) → verdict commands text ≡ given rs → length commands ≤ 32768
@@ -53,42 +51,40 @@ unfolding parsed parse
 paths_parsed text [] = refl
 paths_parsed text (r ∷ rs) = ap (λ (l : List Text). record_path_of text r ∷ l) (paths_parsed text rs)
 
-module _ (commands text : Text) (begins starts lens : List ℕ) (n : ℕ) (a : AcceptedAs commands text begins starts lens n) where
+module _ (commands text : Text) (rows : List IndexRow) (n : ℕ) (long : n ≤ length rows) (a : AcceptedAs commands text rows n) where
   same : records_of commands text ≡ map (parsed text) a.records
   same = accepted_records commands text a.records a.accepted
 
   -- how many there are
-  pub accepted_size : length (records_of commands text) ≡ n
-  accepted_size = ap length same ∙ length-map a.records (parsed text) ∙ a.size
+  pub accepted_size : length (records_of commands text) ≡ length (take n rows)
+  accepted_size = ap length same ∙ length-map a.records (parsed text) ∙ a.size ∙ sym (length-take-le n rows long)
 
   module _ (i : ℕ) (h : i < length (records_of commands text)) where
     inside : i < n
-    inside = omega (arith, h, accepted_size)
+    inside = omega (arith, h, accepted_size, length-take-le n rows long)
 
-    reads : get_or a.records i [] ≡ index.record_at commands (get_or begins i 0)
-    reads = (a.rows i inside).reads
+    reads : get_or a.records i [] ≡ index.record_at commands (begin_of (take n rows) i)
+    reads = (a.each i inside).reads ∙ ap (λ (row : IndexRow). index.record_at commands row.begin) (sym (get_or-take n rows i no_row inside))
 
-    reads_parsed : record_at (records_of commands text) i ≡ parsed text (index.record_at commands (get_or begins i 0))
-    reads_parsed = ap (λ (l : List Parsed). get_or l i blank) same ∙ get_d_map (parsed text) a.records i blank [] (omega (arith, inside, a.size)) ∙ ap (parsed text) reads
+    reads_parsed : record_at (records_of commands text) i ≡ parsed text (index.record_at commands (begin_of (take n rows) i))
+    reads_parsed = ap (λ (l : List Parsed). get_or l i blank) same ∙ get_or-map (parsed text) a.records i [] blank (omega (arith, inside, a.size)) ∙ ap (parsed text) reads
 
-    reads_sound : Sound text (index.record_at commands (get_or begins i 0))
+    reads_sound : Sound text (index.record_at commands (begin_of (take n rows) i))
     reads_sound = subst (Sound text) reads (all_at (Sound text) a.records [] (accepted_sound text commands a.records a.accepted) i (omega (arith, inside, a.size)))
 
-  pub accepted : length begins ≡ 64 → Records commands text begins
-  accepted l = record {
-    few = omega (arith, accepted_size, a.few);
-    there = omega (arith, accepted_size, a.few, l);
+  pub accepted : Records commands text (take n rows)
+  accepted = record {
+    few = omega (arith, ap length same ∙ length-map a.records (parsed text), a.size, a.few);
+    there = omega (arith, accepted_size);
     small = accepted_small commands text a.records a.accepted;
     reads = reads_parsed;
     sound = reads_sound;
   }
 
-  pub accepted_paths : length starts ≡ 64 → length lens ≡ 64 → Paths commands text starts lens n
-  accepted_paths s l = record {
+  pub accepted_paths : Paths commands text (take n rows)
+  accepted_paths = record {
     size = accepted_size;
-    starts_there = omega (arith, a.few, s);
-    lens_there = omega (arith, a.few, l);
-    paths = table_paths commands text begins starts lens n a ∙ paths_parsed text a.records ∙ ap paths_of (sym same);
+    paths = table_paths commands text rows n long a ∙ paths_parsed text a.records ∙ ap paths_of (sym same);
   }
 
 -- where the book is refused there are none

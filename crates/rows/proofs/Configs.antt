@@ -20,6 +20,8 @@ use Rattle.book.specs.Sound.{Sound}
 use Rattle.tsconfig.specs.Config.{Field, base_url, paths, merge, ◌or_else◌, base_if}
 use Rattle.tsconfig.specs.Parsed.{Parsed, parsed, parse, said, placed_value}
 use Rattle.tsconfig_resolver.specs.Find.{record_at, seen, blank}
+use Rattle.book.specs.Index.{begin_of}
+use Rattle.book.specs.declared.IndexRow.{IndexRow}
 use Rattle.rows.specs.Rows.{absent, slot, base_place, supplier, number_of, config_of, Row}
 use Rattle.rows.specs.Records.{records_of, Records}
 use Rattle.rows.specs.Own.{OwnRow}
@@ -99,13 +101,13 @@ module _ (rs : List Parsed) (few : length rs ≤ 64) (text : Text) (c : ℕ) (h 
     own = omega (arith, o.own, h);
   }
 
-module _ (commands text : Text) (begins : List ℕ) (b : Records commands text begins) (c : ℕ) (h : c < length (records_of commands text)) (row : List ℕ) (o : OwnRow c (index.record_at commands (get_or begins c 0)) row) where
+module _ (commands text : Text) (rows : List IndexRow) (b : Records commands text rows) (c : ℕ) (h : c < length (records_of commands text)) (row : List ℕ) (o : OwnRow c (index.record_at commands (begin_of rows c)) row) where
   -- the row of a record by itself is the record as parsed
   pub own_config : config_of (records_of commands text) row ≡ (seen (records_of commands text)).own c
-  own_config = own_config_of (records_of commands text) b.few text c h (index.record_at commands (get_or begins c 0)) (b.reads c h) (b.sound c h) row o
+  own_config = own_config_of (records_of commands text) b.few text c h (index.record_at commands (begin_of rows c)) (b.reads c h) (b.sound c h) row o
 
   pub own_row : Row (records_of commands text) row
-  own_row = own_row_of (records_of commands text) b.few text c h (index.record_at commands (get_or begins c 0)) (b.reads c h) (b.sound c h) row o
+  own_row = own_row_of (records_of commands text) b.few text c h (index.record_at commands (begin_of rows c)) (b.reads c h) (b.sound c h) row o
 
 pub own_number : (c : ℕ) (r : List Cmd) (row : List ℕ) → OwnRow c r row → number_of row ≡ c
 own_number c r row o = o.own

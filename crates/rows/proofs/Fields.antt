@@ -19,6 +19,8 @@ use Rattle.tsconfig.specs.Config.{Field, files, include, exclude, base_url, path
 use Rattle.tsconfig.specs.Parsed.{Value, Parsed, parsed, parse, said, placed_value, own_base}
 use Rattle.tsconfig.specs.Build.{built, built_value, substituted}
 use Rattle.tsconfig_resolver.specs.Find.{Supplied, record_at, path_at, blank}
+use Rattle.book.specs.Index.{begin_of}
+use Rattle.book.specs.declared.IndexRow.{IndexRow}
 use Rattle.rows.specs.Rows.{absent, slot, base_place, own_place, supplier, number_of, config_of, site_of, Row, begin_at}
 use Rattle.text.specs.Text.{each_of}
 use Rattle.record.specs.Good.{good_command, read}
@@ -97,61 +99,61 @@ no_at : {X : Type 0} {n : ℕ} → Some n ≡ None → X
 no_at e = let z : ◌≡◌ {A = ℕ} 0 1 = cc in absurd (omega (arith, z))
 
 -- where the record at a place begins
-module _ (begins row : List ℕ) (k : ℕ) where
-  pub begin_is : (get_or row k absent ≡ absent → ⊥) → begin_at begins row k ≡ Some (get_or begins (get_or row k absent) 0)
+module _ (rows : List IndexRow) (row : List ℕ) (k : ℕ) where
+  pub begin_is : (get_or row k absent ≡ absent → ⊥) → begin_at rows row k ≡ Some (begin_of rows (get_or row k absent))
   unfolding begin_at
   begin_is n = rw (ne_eqb (get_or row k absent) absent n) refl
 
-  pub begin_not : get_or row k absent ≡ absent → begin_at begins row k ≡ None
+  pub begin_not : get_or row k absent ≡ absent → begin_at rows row k ≡ None
   unfolding begin_at
   begin_not e = rw (eq-eqb (get_or row k absent) absent e) refl
 
-  pub found_place : (rec : ℕ) → Some rec ≡ begin_at begins row k → (get_or row k absent ≡ absent → ⊥)
+  pub found_place : (rec : ℕ) → Some rec ≡ begin_at rows row k → (get_or row k absent ≡ absent → ⊥)
   found_place rec e z = no_at (e ∙ begin_not z)
 
-  pub found_rec : (rec : ℕ) → Some rec ≡ begin_at begins row k → rec ≡ get_or begins (get_or row k absent) 0
-  found_rec rec e = let z : Some rec ≡ Some (get_or begins (get_or row k absent) 0) = e ∙ begin_is (found_place rec e) in cc
+  pub found_rec : (rec : ℕ) → Some rec ≡ begin_at rows row k → rec ≡ begin_of rows (get_or row k absent)
+  found_rec rec e = let z : Some rec ≡ Some (begin_of rows (get_or row k absent)) = e ∙ begin_is (found_place rec e) in cc
 
-  pub found_none : None ≡ begin_at begins row k → get_or row k absent ≡ absent
+  pub found_none : None ≡ begin_at rows row k → get_or row k absent ≡ absent
   found_none e =
       by_test (eqb (get_or row k absent) absent) (λ y. eqb-true (get_or row k absent) absent y)
       (λ y. no_at (sym (e ∙ begin_is (eqb-false (get_or row k absent) absent y))))
 
 -- A record of the book
 
-module _ (commands text : Text) (begins : List ℕ) (b : Records commands text begins) (c : ℕ) (h : c < length (records_of commands text)) where
-  pub record_path_lem : path_at (records_of commands text) c ≡ record_path_of text (index.record_at commands (get_or begins c 0))
+module _ (commands text : Text) (rows : List IndexRow) (b : Records commands text rows) (c : ℕ) (h : c < length (records_of commands text)) where
+  pub record_path_lem : path_at (records_of commands text) c ≡ record_path_of text (index.record_at commands (begin_of rows c))
   unfolding parsed parse
   record_path_lem = ap (λ (p : Parsed). p.path) (b.reads c h)
 
-  pub record_extended : (record_at (records_of commands text) c).extended ≡ strings text command.extends (index.record_at commands (get_or begins c 0))
+  pub record_extended : (record_at (records_of commands text) c).extended ≡ strings text command.extends (index.record_at commands (begin_of rows c))
   unfolding parsed parse
   record_extended = ap (λ (p : Parsed). p.extended) (b.reads c h)
 
-  pub record_references : (record_at (records_of commands text) c).references ≡ strings text command.reference (index.record_at commands (get_or begins c 0))
+  pub record_references : (record_at (records_of commands text) c).references ≡ strings text command.reference (index.record_at commands (begin_of rows c))
   unfolding parsed parse
   record_references = ap (λ (p : Parsed). p.references) (b.reads c h)
 
-  pub record_says : (f : Field) → (record_at (records_of commands text) c).says f ≡ option_map (placed_value (dir_of text (index.record_at commands (get_or begins c 0))) f) (said text (index.record_at commands (get_or begins c 0)) f)
+  pub record_says : (f : Field) → (record_at (records_of commands text) c).says f ≡ option_map (placed_value (dir_of text (index.record_at commands (begin_of rows c))) f) (said text (index.record_at commands (begin_of rows c)) f)
   unfolding parsed parse
   record_says f = ap (λ (p : Parsed). p.says f) (b.reads c h)
 
-  pub record_base : (record_at (records_of commands text) c).base ≡ own_base (dir_of text (index.record_at commands (get_or begins c 0))) (single text command.base_url (index.record_at commands (get_or begins c 0)))
+  pub record_base : (record_at (records_of commands text) c).base ≡ own_base (dir_of text (index.record_at commands (begin_of rows c))) (single text command.base_url (index.record_at commands (begin_of rows c)))
   unfolding parsed parse said
   record_base = ap (λ (p : Parsed). p.base) (b.reads c h)
 
-module _ (commands text : Text) (begins : List ℕ) (b : Records commands text begins) (row : List ℕ) (k rec : ℕ) where
+module _ (commands text : Text) (rows : List IndexRow) (b : Records commands text rows) (row : List ℕ) (k rec : ℕ) where
   -- what stands at a place of a row, where it is the number of a record, is good
   pub place_good :
-      ((get_or row k absent ≡ absent → ⊥) → get_or row k absent < length (records_of commands text)) → Some rec ≡ begin_at begins row k →
+      ((get_or row k absent ≡ absent → ⊥) → get_or row k absent < length (records_of commands text)) → Some rec ≡ begin_at rows row k →
       each_of (good_command text) (read commands rec) ≡ true
   place_good h e =
-      let z : rec ≡ get_or begins (get_or row k absent) 0 = found_rec begins row k rec e in
-      good_each text (read commands rec) (subst (λ j. Sound text (read commands j)) (sym z) (b.sound (get_or row k absent) (h (found_place begins row k rec e)))).each
+      let z : rec ≡ begin_of rows (get_or row k absent) = found_rec rows row k rec e in
+      good_each text (read commands rec) (subst (λ j. Sound text (read commands j)) (sym z) (b.sound (get_or row k absent) (h (found_place rows row k rec e)))).each
 
 -- A row of the book's records
 
-module _ (commands text : Text) (begins : List ℕ) (b : Records commands text begins) (row : List ℕ) (w : Row (records_of commands text) row) where
+module _ (commands text : Text) (rows : List IndexRow) (b : Records commands text rows) (row : List ℕ) (w : Row (records_of commands text) row) where
   -- a supplier is a record
   pub supplier_there : (f : Field) → (supplier row f ≡ absent → ⊥) → supplier row f < length (records_of commands text)
   supplier_there f n = there (records_of commands text) (supplier row f) f (w.named f n)
@@ -172,19 +174,19 @@ module _ (commands text : Text) (begins : List ℕ) (b : Records commands text b
       omega (arith, z, w.own)))
 
   -- what begin_at asks for, at each place
-  pub row_begin : (k : ℕ) → k < 28 → (k < length row) × ((get_or row k 255 ≡ 255 → ⊥) → get_or row k 255 < length begins)
+  pub row_begin : (k : ℕ) → k < 28 → (k < length row) × ((get_or row k 255 ≡ 255 → ⊥) → get_or row k 255 < length rows)
   row_begin k h = (omega (arith, h, w.long), λ n. let z = place_there k h n in omega (arith, z, b.there))
 
   -- what stands at a place is a record of the book
-  pub place_sound : (k rec : ℕ) → k < 28 → Some rec ≡ begin_at begins row k → Sound text (index.record_at commands rec)
+  pub place_sound : (k rec : ℕ) → k < 28 → Some rec ≡ begin_at rows row k → Sound text (index.record_at commands rec)
   place_sound k rec h e =
-      let z : rec ≡ get_or begins (get_or row k absent) 0 = found_rec begins row k rec e in
-      subst (λ j. Sound text (index.record_at commands j)) (sym z) (b.sound (get_or row k absent) (place_there k h (found_place begins row k rec e)))
+      let z : rec ≡ begin_of rows (get_or row k absent) = found_rec rows row k rec e in
+      subst (λ j. Sound text (index.record_at commands j)) (sym z) (b.sound (get_or row k absent) (place_there k h (found_place rows row k rec e)))
 
-  pub field_sound : (f : Field) (rec : ℕ) → Some rec ≡ begin_at begins row (slot f) → Sound text (index.record_at commands rec)
+  pub field_sound : (f : Field) (rec : ℕ) → Some rec ≡ begin_at rows row (slot f) → Sound text (index.record_at commands rec)
   field_sound f rec e =
-      let z : rec ≡ get_or begins (supplier row f) 0 = found_rec begins row (slot f) rec e in
-      subst (λ j. Sound text (index.record_at commands j)) (sym z) (b.sound (supplier row f) (supplier_there f (found_place begins row (slot f) rec e)))
+      let z : rec ≡ begin_of rows (supplier row f) = found_rec rows row (slot f) rec e in
+      subst (λ j. Sound text (index.record_at commands j)) (sym z) (b.sound (supplier row f) (supplier_there f (found_place rows row (slot f) rec e)))
 
   -- The fields as merged
 
@@ -194,62 +196,62 @@ module _ (commands text : Text) (begins : List ℕ) (b : Records commands text b
     named_says = value_map (supplier row f) ((record_at (records_of commands text) (supplier row f)).says f)
 
     -- there is None
-    pub field_none : None ≡ begin_at begins row (slot f) → option_map (λ v. v.value) ((config_of (records_of commands text) row).named f) ≡ None
+    pub field_none : None ≡ begin_at rows row (slot f) → option_map (λ v. v.value) ((config_of (records_of commands text) row).named f) ≡ None
     field_none e =
-        let z : supplier row f ≡ absent = found_none begins row (slot f) e in
+        let z : supplier row f ≡ absent = found_none rows row (slot f) e in
         named_says ∙ ap (λ (p : Parsed). p.says f) (get_or-eq_default (records_of commands text) blank (omega (arith, z, b.few)))
 
     -- what the supplier says
-    pub field_at : (rec : ℕ) → Some rec ≡ begin_at begins row (slot f) → option_map (λ v. v.value) ((config_of (records_of commands text) row).named f) ≡ option_map (placed_value (dir_of text (index.record_at commands rec)) f) (said text (index.record_at commands rec) f)
+    pub field_at : (rec : ℕ) → Some rec ≡ begin_at rows row (slot f) → option_map (λ v. v.value) ((config_of (records_of commands text) row).named f) ≡ option_map (placed_value (dir_of text (index.record_at commands rec)) f) (said text (index.record_at commands rec) f)
     field_at rec e =
-        named_says ∙ record_says commands text begins b (supplier row f) (supplier_there f (found_place begins row (slot f) rec e)) f
-        ∙ ap (λ (j : ℕ). option_map (placed_value (dir_of text (index.record_at commands j)) f) (said text (index.record_at commands j) f)) (sym (found_rec begins row (slot f) rec e))
+        named_says ∙ record_says commands text rows b (supplier row f) (supplier_there f (found_place rows row (slot f) rec e)) f
+        ∙ ap (λ (j : ℕ). option_map (placed_value (dir_of text (index.record_at commands j)) f) (said text (index.record_at commands j) f)) (sym (found_rec rows row (slot f) rec e))
 
-    pub field_value : option_map (λ v. v.value) ((config_of (records_of commands text) row).named f) ≡ option_map (placed_value (dir_of text (index.record_at commands (get_or begins (supplier row f) 0))) f) (said_at commands text (begin_at begins row (slot f)) f)
+    pub field_value : option_map (λ v. v.value) ((config_of (records_of commands text) row).named f) ≡ option_map (placed_value (dir_of text (index.record_at commands (begin_of rows (supplier row f)))) f) (said_at commands text (begin_at rows row (slot f)) f)
     unfolding said_at
     field_value =
         by_test (eqb (supplier row f) absent)
         (λ y.
-        let z : begin_at begins row (slot f) ≡ None = begin_not begins row (slot f) (eqb-true (supplier row f) absent y) in
-        field_none (sym z) ∙ sym (ap (λ (x : Option ℕ). option_map (placed_value (dir_of text (index.record_at commands (get_or begins (supplier row f) 0))) f) (said_at commands text x f)) z))
+        let z : begin_at rows row (slot f) ≡ None = begin_not rows row (slot f) (eqb-true (supplier row f) absent y) in
+        field_none (sym z) ∙ sym (ap (λ (x : Option ℕ). option_map (placed_value (dir_of text (index.record_at commands (begin_of rows (supplier row f)))) f) (said_at commands text x f)) z))
         (λ y.
-        let z : begin_at begins row (slot f) ≡ Some (get_or begins (supplier row f) 0) = begin_is begins row (slot f) (eqb-false (supplier row f) absent y) in
-        field_at (get_or begins (supplier row f) 0) (sym z) ∙ sym (ap (λ (x : Option ℕ). option_map (placed_value (dir_of text (index.record_at commands (get_or begins (supplier row f) 0))) f) (said_at commands text x f)) z))
+        let z : begin_at rows row (slot f) ≡ Some (begin_of rows (supplier row f)) = begin_is rows row (slot f) (eqb-false (supplier row f) absent y) in
+        field_at (begin_of rows (supplier row f)) (sym z) ∙ sym (ap (λ (x : Option ℕ). option_map (placed_value (dir_of text (index.record_at commands (begin_of rows (supplier row f)))) f) (said_at commands text x f)) z))
 
     -- of a field that parsing leaves as it is
-    pub field_plain : plain f ≡ true → option_map (λ v. v.value) ((config_of (records_of commands text) row).named f) ≡ said_at commands text (begin_at begins row (slot f)) f
-    field_plain e = field_value ∙ map_plain (dir_of text (index.record_at commands (get_or begins (supplier row f) 0))) f e (said_at commands text (begin_at begins row (slot f)) f)
+    pub field_plain : plain f ≡ true → option_map (λ v. v.value) ((config_of (records_of commands text) row).named f) ≡ said_at commands text (begin_at rows row (slot f)) f
+    field_plain e = field_value ∙ map_plain (dir_of text (index.record_at commands (begin_of rows (supplier row f)))) f e (said_at commands text (begin_at rows row (slot f)) f)
 
   -- The built config
 
   -- the path, the directory and the references of the row's own record
-  pub site_dir : path_at (records_of commands text) (number_of row) ≡ record_path_of text (index.record_at commands (get_or begins (number_of row) 0))
-  site_dir = record_path_lem commands text begins b (number_of row) w.own
+  pub site_dir : path_at (records_of commands text) (number_of row) ≡ record_path_of text (index.record_at commands (begin_of rows (number_of row)))
+  site_dir = record_path_lem commands text rows b (number_of row) w.own
 
-  pub site_path : (site_of (records_of commands text) row).path ≡ record_path_of text (index.record_at commands (get_or begins (number_of row) 0))
+  pub site_path : (site_of (records_of commands text) row).path ≡ record_path_of text (index.record_at commands (begin_of rows (number_of row)))
   unfolding site_of
   site_path = site_dir
 
-  pub own_begin : begin_at begins row own_place ≡ Some (get_or begins (number_of row) 0)
-  own_begin = begin_is begins row own_place (λ e. omega (arith, e, w.own, b.few))
+  pub own_begin : begin_at rows row own_place ≡ Some (begin_of rows (number_of row))
+  own_begin = begin_is rows row own_place (λ e. omega (arith, e, w.own, b.few))
 
-  pub base_begin : begin_at begins row base_place ≡ Some (get_or begins (get_or row base_place absent) 0)
-  base_begin = begin_is begins row base_place (λ e. omega (arith, e, w.base, b.few))
+  pub base_begin : begin_at rows row base_place ≡ Some (begin_of rows (get_or row base_place absent))
+  base_begin = begin_is rows row base_place (λ e. omega (arith, e, w.base, b.few))
 
-  pub own_sound : Sound text (index.record_at commands (get_or begins (number_of row) 0))
+  pub own_sound : Sound text (index.record_at commands (begin_of rows (number_of row)))
   own_sound = b.sound (number_of row) w.own
 
-  pub base_sound : Sound text (index.record_at commands (get_or begins (get_or row base_place absent) 0))
+  pub base_sound : Sound text (index.record_at commands (begin_of rows (get_or row base_place absent)))
   base_sound = b.sound (get_or row base_place absent) w.base
 
-  module _ (dir : Text) (d : dir ≡ dir_of text (index.record_at commands (get_or begins (number_of row) 0))) where
+  module _ (dir : Text) (d : dir ≡ dir_of text (index.record_at commands (begin_of rows (number_of row)))) where
     same_dir : parent_of (path_at (records_of commands text) (number_of row)) ≡ dir
     same_dir = ap parent_of site_dir ∙ sym d
 
     -- the base
-    pub site_base : (site_of (records_of commands text) row).config.base ≡ substituted dir (own_base (dir_of text (index.record_at commands (get_or begins (get_or row base_place absent) 0))) (single text command.base_url (index.record_at commands (get_or begins (get_or row base_place absent) 0))))
+    pub site_base : (site_of (records_of commands text) row).config.base ≡ substituted dir (own_base (dir_of text (index.record_at commands (begin_of rows (get_or row base_place absent)))) (single text command.base_url (index.record_at commands (begin_of rows (get_or row base_place absent)))))
     unfolding site_of built mapped config_of
-    site_base = ap₂ substituted same_dir (record_base commands text begins b (get_or row base_place absent) w.base)
+    site_base = ap₂ substituted same_dir (record_base commands text rows b (get_or row base_place absent) w.base)
 
     module _ (base : Text) (s : base ≡ (site_of (records_of commands text) row).config.base) (f : Field) where
       -- a field, built from what was merged
@@ -257,12 +259,12 @@ module _ (commands text : Text) (begins : List ℕ) (b : Records commands text b
       unfolding site_of built mapped
       site_field = ap₂ (λ (x y : Text). option_map (built_value x y f) (option_map (λ v. v.value) ((config_of (records_of commands text) row).named f))) same_dir (sym s)
 
-      pub site_none : None ≡ begin_at begins row (slot f) → (site_of (records_of commands text) row).config.named f ≡ None
+      pub site_none : None ≡ begin_at rows row (slot f) → (site_of (records_of commands text) row).config.named f ≡ None
       site_none e = site_field ∙ ap (option_map (built_value dir base f)) (field_none f e)
 
-      pub site_at_lem : (rec : ℕ) → Some rec ≡ begin_at begins row (slot f) → (site_of (records_of commands text) row).config.named f ≡ option_map (built_value dir base f) (option_map (placed_value (dir_of text (index.record_at commands rec)) f) (said text (index.record_at commands rec) f))
+      pub site_at_lem : (rec : ℕ) → Some rec ≡ begin_at rows row (slot f) → (site_of (records_of commands text) row).config.named f ≡ option_map (built_value dir base f) (option_map (placed_value (dir_of text (index.record_at commands rec)) f) (said text (index.record_at commands rec) f))
       site_at_lem rec e = site_field ∙ ap (option_map (built_value dir base f)) (field_at f rec e)
 
       -- of a field that parsing leaves as it is
-      pub site_plain : plain f ≡ true → (rec : ℕ) → Some rec ≡ begin_at begins row (slot f) → (site_of (records_of commands text) row).config.named f ≡ option_map (built_value dir base f) (said text (index.record_at commands rec) f)
+      pub site_plain : plain f ≡ true → (rec : ℕ) → Some rec ≡ begin_at rows row (slot f) → (site_of (records_of commands text) row).config.named f ≡ option_map (built_value dir base f) (said text (index.record_at commands rec) f)
       site_plain e rec a = site_at_lem rec a ∙ ap (option_map (built_value dir base f)) (map_plain (dir_of text (index.record_at commands rec)) f e (said text (index.record_at commands rec) f))

@@ -1,4 +1,4 @@
--- The records of an accepted book, and what the tables of its check say of them.
+-- The records of an accepted book, and what the rows of its index say of them.
 use Rattle.std.specs.Prelude.{ℕ, ◌≤◌, ◌<◌, ◌≡◌, List, [], map, length, get_or}
 use Rattle.std.specs.Prelude.{Option, Some, None}
 use Rattle.text.specs.Bytes.{Text}
@@ -7,6 +7,8 @@ use Rattle.book.specs.declared.Cmd.{Cmd}
 use Rattle.book.specs.Answer.{Answer, refused, given}
 use Rattle.book.specs.Book.{verdict}
 use Rattle.book.specs.Index as index
+use Rattle.book.specs.Index.{begin_of}
+use Rattle.book.specs.declared.IndexRow.{IndexRow}
 use Rattle.book.specs.Sound.{Sound}
 use Rattle.book.specs.Record.{record_path_of}
 use Rattle.records.specs.Paths.{path_table}
@@ -33,17 +35,15 @@ said_at commands text None f = None
 said_at commands text (Some rec) f = said text (index.record_at commands rec) f
 
 module _ (commands text : Text) where
-  -- record i is what the commands from begins[i] on say
-  pub record Records (begins : List ℕ) : Type 0 where
+  -- record i is what the commands from the begin of row i on say
+  pub record Records (rows : List IndexRow) : Type 0 where
     pub few : length (records_of commands text) ≤ 64
-    pub there : length (records_of commands text) ≤ length begins
+    pub there : length (records_of commands text) ≤ length rows
     pub small : length commands ≤ 32768
-    pub reads : (i : ℕ) → i < length (records_of commands text) → record_at (records_of commands text) i ≡ parsed text (index.record_at commands (get_or begins i 0))
-    pub sound : (i : ℕ) → i < length (records_of commands text) → Sound text (index.record_at commands (get_or begins i 0))
+    pub reads : (i : ℕ) → i < length (records_of commands text) → record_at (records_of commands text) i ≡ parsed text (index.record_at commands (begin_of rows i))
+    pub sound : (i : ℕ) → i < length (records_of commands text) → Sound text (index.record_at commands (begin_of rows i))
 
-  -- the first n rows of starts and lens are the records' paths
-  pub record Paths (starts lens : List ℕ) (n : ℕ) : Type 0 where
-    pub size : length (records_of commands text) ≡ n
-    pub starts_there : n ≤ length starts
-    pub lens_there : n ≤ length lens
-    pub paths : path_table text starts lens n ≡ paths_of (records_of commands text)
+  -- each row is of a record, and the rows say the records' paths
+  pub record Paths (rows : List IndexRow) : Type 0 where
+    pub size : length (records_of commands text) ≡ length rows
+    pub paths : path_table text rows ≡ paths_of (records_of commands text)

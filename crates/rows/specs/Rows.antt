@@ -3,6 +3,8 @@
 use Rattle.std.specs.Prelude.{ℕ, ◌+◌, ◌<◌, ◌≡◌, List, [], true, cond, eqb, ltb, length, get_or}
 use Rattle.path.specs.Path.{is_some}
 use Rattle.std.specs.Prelude.{Option, Some, None}
+use Rattle.book.specs.Index.{begin_of}
+use Rattle.book.specs.declared.IndexRow.{IndexRow}
 use Rattle.tsconfig.specs.Config.{Field, files, include, exclude, base_url, paths, root_dirs, out_dir, declaration_dir, flag, text}
 use Rattle.tsconfig.specs.Parsed.{Parsed}
 use Rattle.tsconfig.specs.Claims.{Site}
@@ -57,10 +59,6 @@ pub record Row (rs : List Parsed) (row : List ℕ) : Type 0 where
   pub base : get_or row base_place absent < length rs
   pub own : number_of row < length rs
 
--- row i of a table of rows
-abbrev pub row_at : List (List ℕ) → ℕ → List ℕ
-row_at table i = get_or table i []
-
 -- where the record that stands at a place of the row begins in the commands
-unfoldable pub begin_at : List ℕ → List ℕ → ℕ → Option ℕ
-begin_at begins row k = cond (eqb (get_or row k absent) absent) None (Some (get_or begins (get_or row k absent) 0))
+unfoldable pub begin_at : List IndexRow → List ℕ → ℕ → Option ℕ
+begin_at rows row k = cond (eqb (get_or row k absent) absent) None (Some (begin_of rows (get_or row k absent)))

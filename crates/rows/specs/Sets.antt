@@ -7,6 +7,7 @@ use Rattle.text.specs.Bytes.{Text}
 use Rattle.book.specs.Record.{Key}
 use Rattle.book.specs.Sound.{All, nil, cons, Good, Sound}
 use Rattle.book.specs.declared.Cmd.{Cmd}
+use Rattle.book.specs.declared.IndexRow.{IndexRow}
 use Rattle.tsconfig.specs.Config.{Field, files, include, exclude, base_url, paths, root_dirs, out_dir, declaration_dir, flag, text}
 use Rattle.tsconfig.specs.Parsed.{Value, Parsed}
 use Rattle.rows.specs.Records.{Records}
@@ -55,5 +56,5 @@ Good-prop t c = Prim.hlevel bool_set
 Sound-prop : (t : Text) (r : List Cmd) → IsProp (Sound t r)
 Sound-prop t r = Prim.hlevel (All-prop (Good t) (Good-prop t) r, le_prop)
 
-pub Records-prop : (commands t : Text) (begins : List ℕ) → IsProp (Records commands t begins)
-Records-prop commands t begins = Prim.hlevel (le_prop, Parsed-set, Sound-prop t)
+pub Records-prop : (commands t : Text) (rows : List IndexRow) → IsProp (Records commands t rows)
+Records-prop commands t rows = Prim.hlevel (le_prop, Parsed-set, Sound-prop t)

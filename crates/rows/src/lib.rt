@@ -2,15 +2,15 @@
 #![tactic(auto)]
 
 ghost use Rattle.std.specs.Prelude.{◌≡◌, ◌<◌, length, get_or, unwrap_or, option_map, IfSome};
-ghost use Rattle.book.specs.Index.{record_at};
+ghost use Rattle.book.specs.Index.{begin_of, record_at};
 ghost use Rattle.rows.specs.Records.{Records, Paths};
 ghost use Rattle.rows.specs.Rows.{begin_at};
 ghost use Rattle.rows.specs.Sets.{Records-prop};
 ghost use Rattle.rows.specs.Own.{slot_of, marked, OwnRow};
 
 use book::{
-    BASE_URL, Cmd, DECLARATION_DIR, END, EXCLUDE, FILES, FLAG, INCLUDE, OUT_DIR, PATHS, ROOT_DIRS,
-    TEXT_OPTION, command_at,
+    BASE_URL, Cmd, DECLARATION_DIR, END, EXCLUDE, FILES, FLAG, INCLUDE, IndexRow, OUT_DIR, PATHS,
+    ROOT_DIRS, TEXT_OPTION, command_at,
 };
 use record::Record;
 use records::PathTable;
@@ -23,14 +23,13 @@ pub const ABSENT: u8 = 255;
 // How many places a row has.
 pub const ROW: usize = 28;
 
-// An accepted book: its commands, where each record begins in them, and the records' paths, with the text.
+// An accepted book: its commands, and the records' paths, with the text and the rows of its index.
 #[derive(Clone, Copy)]
 pub struct CheckedBook<'a> {
     pub commands: &'a [u8],
-    pub begins: &'a [usize],
     pub paths: PathTable<'a>,
-    pub ghost records: { Records commands.now paths.text.now begins.now } by { Records-prop commands.now paths.text.now begins.now },
-    pub ghost listed: { Paths commands.now paths.text.now paths.starts.now paths.lens.now paths.count },
+    pub ghost records: { Records commands.now paths.text.now paths.rows.now } by { Records-prop commands.now paths.text.now paths.rows.now },
+    pub ghost listed: { Paths commands.now paths.text.now paths.rows.now },
 }
 
 // The place of the field that a command names.
@@ -82,15 +81,15 @@ pub fn own_row(commands: &[u8], rec: usize, c: u8) -> [u8; ROW]
 }
 
 // Where the record that stands at a place of the row begins in the commands.
-fn begin_at(begins: &[usize], row: &[u8], k: usize) -> Option<usize>
-    requires { (k < length row.now) × ((get_or row.now k 255 ≡ 255 → ⊥) → get_or row.now k 255 < length begins.now) }
-    ensures { result ≡ begin_at begins.now row.now k }
+fn begin_at(rows: &[IndexRow], row: &[u8], k: usize) -> Option<usize>
+    requires { (k < length row.now) × ((get_or row.now k 255 ≡ 255 → ⊥) → get_or row.now k 255 < length rows.now) }
+    ensures { result ≡ begin_at rows.now row.now k }
 {
     let c = row[k];
     if c == ABSENT {
         return None;
     }
-    Some(begins[usize::from(c)])
+    Some(rows[usize::from(c)].begin)
 }
 
 impl<'a> CheckedBook<'a> {
@@ -98,15 +97,15 @@ impl<'a> CheckedBook<'a> {
 
     // The record c.
     pub fn record_at(&self, c: usize) -> Record<'a>
-        requires { c < self.now.paths.count }
-        ensures at { result.at ≡ get_or self.now.begins.now c 0 }
+        requires { c < length self.now.paths.rows.now }
+        ensures at { result.at ≡ begin_of self.now.paths.rows.now c }
         ensures commands { result.commands.now ≡ self.now.commands.now }
         ensures text { result.text.now ≡ self.now.paths.text.now }
     {
         Record {
             commands: self.commands,
             text: self.paths.text,
-            at: self.begins[c],
+            at: self.paths.rows[c].begin,
         }
     }
 
@@ -114,11 +113,11 @@ impl<'a> CheckedBook<'a> {
     pub fn supplier(&self, row: &[u8], k: usize) -> Option<Record<'a>>
         requires place { k < length row.now }
         requires there { (get_or row.now k 255 ≡ 255 → ⊥) → get_or row.now k 255 < length (records_in self.now) }
-        ensures at { option_map (λ r. r.at) result ≡ begin_at self.now.begins.now row.now k }
+        ensures at { option_map (λ r. r.at) result ≡ begin_at self.now.paths.rows.now row.now k }
         ensures commands { IfSome result (λ r. r.commands.now ≡ self.now.commands.now) }
         ensures text { IfSome result (λ r. r.text.now ≡ self.now.paths.text.now) }
     {
-        let at = begin_at(self.begins, row, k)?;
+        let at = begin_at(self.paths.rows, row, k)?;
         Some(Record {
             commands: self.commands,
             text: self.paths.text,

@@ -18,21 +18,21 @@ use Rattle.rows.specs.declared.CheckedBook.{CheckedBook}
 use Rattle.rows.proofs.Fields.{found_rec, found_none, site_path, site_base}
 
 module _ (b : CheckedBook) (row : List ℕ) (w : Row (records_in b) row) where
-  pub own_there : {X : Type 0} → None ≡ begin_at b.begins.now row own_place → X
-  own_there e = absurd (omega (arith, found_none b.begins.now row own_place e, w.own, b.records.few))
+  pub own_there : {X : Type 0} → None ≡ begin_at b.paths.rows.now row own_place → X
+  own_there e = absurd (omega (arith, found_none b.paths.rows.now row own_place e, w.own, b.records.few))
 
-  pub base_there : {X : Type 0} → None ≡ begin_at b.begins.now row base_place → X
-  base_there e = absurd (omega (arith, found_none b.begins.now row base_place e, w.base, b.records.few))
+  pub base_there : {X : Type 0} → None ≡ begin_at b.paths.rows.now row base_place → X
+  base_there e = absurd (omega (arith, found_none b.paths.rows.now row base_place e, w.base, b.records.few))
 
   module _ (r : Record) (c : r.commands.now ≡ b.commands.now) (t : r.text.now ≡ b.paths.text.now) where
-    pub dir_is : Some r.at ≡ begin_at b.begins.now row own_place → parent_of (record_path_of r.text.now (read r.commands.now r.at)) ≡ parent_of (site_of (records_in b) row).path
+    pub dir_is : Some r.at ≡ begin_at b.paths.rows.now row own_place → parent_of (record_path_of r.text.now (read r.commands.now r.at)) ≡ parent_of (site_of (records_in b) row).path
     dir_is e =
-        rw (c, t, found_rec b.begins.now row own_place r.at e)
-        (ap parent_of (sym (site_path b.commands.now b.paths.text.now b.begins.now b.records row w)))
+        rw (c, t, found_rec b.paths.rows.now row own_place r.at e)
+        (ap parent_of (sym (site_path b.commands.now b.paths.text.now b.paths.rows.now b.records row w)))
 
     pub base_is :
-        Some r.at ≡ begin_at b.begins.now row base_place → (dir : Text) → dir ≡ parent_of (site_of (records_in b) row).path →
+        Some r.at ≡ begin_at b.paths.rows.now row base_place → (dir : Text) → dir ≡ parent_of (site_of (records_in b) row).path →
         substituted dir (own_base (parent_of (record_path_of r.text.now (read r.commands.now r.at))) (single r.text.now command.base_url (read r.commands.now r.at))) ≡ (site_of (records_in b) row).config.base
     base_is e dir d =
-        rw (c, t, found_rec b.begins.now row base_place r.at e)
-        (sym (site_base b.commands.now b.paths.text.now b.begins.now b.records row w dir (d ∙ ap parent_of (site_path b.commands.now b.paths.text.now b.begins.now b.records row w))))
+        rw (c, t, found_rec b.paths.rows.now row base_place r.at e)
+        (sym (site_base b.commands.now b.paths.text.now b.paths.rows.now b.records row w dir (d ∙ ap parent_of (site_path b.commands.now b.paths.text.now b.paths.rows.now b.records row w))))

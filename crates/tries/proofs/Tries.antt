@@ -41,17 +41,17 @@ module _ (b : CheckedBook) (row : List ℕ) (w : Row (records_in b) row) where
   abbrev config : Settings
   config = config_at b row
 
-  pub roots_none : (p : Text) → None ≡ begin_at b.begins.now row 5 → root_tries p (config.named root_dirs) ≡ []
+  pub roots_none : (p : Text) → None ≡ begin_at b.paths.rows.now row 5 → root_tries p (config.named root_dirs) ≡ []
   unfolding root_tries slot
   roots_none p q =
-      let y : config.named root_dirs ≡ None = site_none b.commands.now b.paths.text.now b.begins.now b.records row w (dir_at b row) (dir_is b row w) config.base refl root_dirs q in
+      let y : config.named root_dirs ≡ None = site_none b.commands.now b.paths.text.now b.paths.rows.now b.records row w (dir_at b row) (dir_is b row w) config.base refl root_dirs q in
       rw y
 
-  pub roots_named : (rec : ℕ) → Some rec ≡ begin_at b.begins.now row 5 → config.named root_dirs ≡ Some (roots_of b.commands.now b.paths.text.now (dir_at b row) (dir_of b.paths.text.now (read b.commands.now rec)) rec)
+  pub roots_named : (rec : ℕ) → Some rec ≡ begin_at b.paths.rows.now row 5 → config.named root_dirs ≡ Some (roots_of b.commands.now b.paths.text.now (dir_at b row) (dir_of b.paths.text.now (read b.commands.now rec)) rec)
   unfolding slot built_value placed_value said
   roots_named rec q =
       let own = dir_of b.paths.text.now (read b.commands.now rec) in
-      site_at_lem b.commands.now b.paths.text.now b.begins.now b.records row w (dir_at b row) (dir_is b row w) config.base refl root_dirs rec q
+      site_at_lem b.commands.now b.paths.text.now b.paths.rows.now b.records row w (dir_at b row) (dir_is b row w) config.base refl root_dirs rec q
       ∙ ap (λ (o : Option (List Text)). option_map (built_value (dir_at b row) config.base root_dirs) (option_map (placed_value own root_dirs) o))
       (listed_some b.paths.text.now command.root_dirs command.root_dir (read b.commands.now rec) (said_some b row w root_dirs rec q))
       ∙ ap Some (map_map (substituted (dir_at b row)) (placed own) (strings b.paths.text.now command.root_dir (read b.commands.now rec)))

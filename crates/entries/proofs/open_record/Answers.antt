@@ -15,7 +15,7 @@ returns-clause-ok c =
     record {
       read = ap unread (sym c.read_entries-entries.ensures.entries ∙ sym (ap entries_of c.as_slice.ensures)) ∙ sym c.unread.ensures ∙ ap (option_map number_of) c.in_default.is;
       entries = c.read_entries-entries.ensures;
-      config = own_config b.commands.now b.paths.text.now b.begins.now b.records c.args.c h _ own;
-      row = own_row b.commands.now b.paths.text.now b.begins.now b.records c.args.c h _ own;
+      config = own_config b.commands.now b.paths.text.now b.paths.rows.now b.records c.args.c h _ own;
+      row = own_row b.commands.now b.paths.text.now b.paths.rows.now b.records c.args.c h _ own;
       own = own_number _ _ _ own;
     }

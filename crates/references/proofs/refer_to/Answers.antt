@@ -14,7 +14,7 @@ pub refer-requires : goal.refer-requires
 refer-requires c =
     let t = c.args.book.now.paths in
     let p = c.requires.0 in
-    record { table = p.table; inside = locate_within t.text.now t.starts.now t.lens.now t.count _ _ (sym c.in-Some.is ∙ c.find_meant.ensures); few = p.few }
+    record { table = p.table; inside = locate_within t.text.now t.rows.now _ _ (sym c.in-Some.is ∙ c.find_meant.ensures); few = p.few }
 
 pub returns : goal.returns
 returns c =
