@@ -25,7 +25,8 @@ use Rattle.rows.specs.Records.{dir_of}
 use Rattle.rows.specs.Checked.{records_in}
 use Rattle.rows.specs.declared.CheckedBook.{CheckedBook}
 use Rattle.rows.proofs.Fields.{plain, map_plain, found_place, found_rec, record_says, supplier_there, site_path, site_none, site_plain}
-use Rattle.claims.specs.Built.{site_in}
+use Rattle.sites.specs.Sites.{site_in}
+use Rattle.sites.specs.declared.Config.{Config}
 
 -- a list that is there
 list_there : (text : Text) (r : List Cmd) (mark item : ℕ) → is_some (listed text mark item r) ≡ true → listed text mark item r ≡ Some (strings text item r)
@@ -38,9 +39,18 @@ same_flag : (o : Option Bool) → option_map (λ (v : Bool). v) o ≡ o
 same_flag None = refl
 same_flag (Some v) = refl
 
-module _ (b : CheckedBook) (row : List ℕ) (w : Row (records_in b) row) where
+module _ (config : Config) where
+  abbrev b : CheckedBook
+  b = config.book.now
+
+  abbrev row : List ℕ
+  row = config.row.now
+
+  abbrev w : Row (records_in b) row
+  w = config.named
+
   abbrev site : Site
-  site = site_in b row
+  site = site_in config
 
   -- the built config's directory
   abbrev dir : Text

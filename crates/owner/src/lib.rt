@@ -10,7 +10,8 @@ ghost use Rattle.book.specs.Sound.{All};
 ghost use Rattle.tsconfig_resolver.specs.Find.{paths_of};
 ghost use Rattle.tsconfig_resolver.specs.Project.{owner_of};
 ghost use Rattle.rows.specs.Checked.{records_in};
-ghost use Rattle.rows.specs.Rows.{Row, site_of};
+ghost use Rattle.rows.specs.Rows.{Row};
+ghost use Rattle.sites.specs.Sites.{site_in};
 ghost use Rattle.references.specs.References.{sites_of};
 ghost use Rattle.owner.specs.Owned.{claimer, answered, OwnedAs, FolderAs};
 
@@ -20,7 +21,7 @@ use component_walk::{count_components, inside_node_modules};
 use ends::parent;
 use references::load_record;
 use rows::{CheckedBook, ROW};
-use sites::site_number;
+use sites::{Config, site_number};
 
 // The owner of a file: the record of the config found on the walk, and that of its solution.
 #[derive(Clone, Copy)]
@@ -30,12 +31,12 @@ pub struct Owner {
 }
 
 // The record of the first of the references that claims the path.
-fn first_claimer(book: &CheckedBook<'_>, refs: &[[u8; ROW]], path: &[u8]) -> Option<usize>
+fn first_claimer<'a>(book: &'a CheckedBook<'a>, refs: &'a [[u8; ROW]], path: &[u8]) -> Option<usize>
     requires { All (Row (records_in book.now)) refs.now }
     ensures { result ≡ claimer path.now (sites_of (records_in book.now) refs.now) }
 {
     for row in refs {
-        if is_claimed(book, row, path) {
+        if is_claimed(&Config::new(book, row), path) {
             return Some(site_number(row));
         }
     }
@@ -43,21 +44,15 @@ fn first_claimer(book: &CheckedBook<'_>, refs: &[[u8; ROW]], path: &[u8]) -> Opt
 }
 
 // What a loaded config on the walk comes to: its first reference that claims the path is the solution, else itself.
-fn owned_by(
-    book: &CheckedBook<'_>,
-    row: &[u8; ROW],
-    refs: &[[u8; ROW]],
-    path: &[u8],
-) -> Option<Owner>
-    requires own { Row (records_in book.now) row.now }
-    requires references { All (Row (records_in book.now)) refs.now }
-    ensures { OwnedAs path.now (site_of (records_in book.now) row.now) (sites_of (records_in book.now) refs.now) result }
+fn owned_by<'a>(config: &Config<'a>, refs: &'a [[u8; ROW]], path: &[u8]) -> Option<Owner>
+    requires { All (Row (records_in config.now.book.now)) refs.now }
+    ensures { OwnedAs path.now (site_in config.now) (sites_of (records_in config.now.book.now) refs.now) result }
 {
-    let found = site_number(row);
-    if let Some(solution) = first_claimer(book, refs, path) {
+    let found = site_number(config.row);
+    if let Some(solution) = first_claimer(config.book, refs, path) {
         return Some(Owner { found, solution });
     }
-    if is_claimed(book, row, path) {
+    if is_claimed(config, path) {
         return Some(Owner {
             found,
             solution: found,
@@ -75,8 +70,7 @@ fn owned_in(book: &CheckedBook<'_>, folder: &[u8], path: &[u8]) -> Result<Option
     };
     let project = load_record(book, c)?;
     Ok(owned_by(
-        book,
-        &project.row,
+        &Config::new(book, &project.row),
         &project.references[..project.count],
         path,
     ))

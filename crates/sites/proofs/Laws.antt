@@ -1,5 +1,5 @@
 -- The directory and the base of a row's config, from the records that stand at its places. Assumes nothing.
-use mathlib.Core.Path.{◌≡◌, sym, ap, ◌∙◌}
+use mathlib.Core.Path.{◌≡◌, sym, ap, ap₂, ◌∙◌}
 use mathlib.Core.List.{List}
 use Prim.Native.Nat.{ℕ}
 use native.Mathlib.Omega.{arith}
@@ -15,7 +15,14 @@ use Rattle.record.specs.declared.place.Record.{Record}
 use Rattle.rows.specs.Rows.{base_place, own_place, begin_at, site_of, Row}
 use Rattle.rows.specs.Checked.{records_in}
 use Rattle.rows.specs.declared.CheckedBook.{CheckedBook}
+use Rattle.sites.specs.Configs.{site_at}
+use Rattle.sites.specs.Sites.{site_in}
+use Rattle.sites.specs.declared.Config.{Config}
 use Rattle.rows.proofs.Fields.{found_rec, found_none, site_path, site_base}
+
+-- the config of a row is that of the row's site
+pub site_is : (c : Config) (b : CheckedBook) (row : List ℕ) → c.book.now ≡ b → c.row.now ≡ row → site_in c ≡ site_at b row
+site_is c b row e f = ap₂ site_at e f
 
 module _ (b : CheckedBook) (row : List ℕ) (w : Row (records_in b) row) where
   pub own_there : {X : Type 0} → None ≡ begin_at b.paths.rows.now row own_place → X

@@ -1,7 +1,7 @@
 use Rattle.std.proofs.Common.{◌≡◌, ap, ◌∙◌, not, ◌&&◌}
 use Rattle.tsconfig.specs.Config.{include, exclude}
 use Rattle.tsconfig.specs.Claims.{included, excluded, claims}
-use Rattle.claims.specs.Built.{site_in}
+use Rattle.sites.specs.Sites.{site_in}
 use Rattle.claims.proofs.Sites.{kept, not_kept}
 use Rattle.claims.proofs.is_claimed.Goals.{then-not-is_outside, else-not-is_outside}
 use Rattle.claims.proofs.is_claimed.Goals as goal
@@ -13,7 +13,7 @@ returns-then-is_in_files c = rw (← c.is_in_files.ensures, c.if-is_in_files.tru
 pub returns-then-is_included : goal.returns-then-is_included
 unfolding claims
 returns-then-is_included c =
-    let site = site_in c.args.book.now c.args.row.now in
+    let site = site_in c.args.config.now in
     let taken = included site c.args.path.now (site.config.named include) in
     let e : c.if-not-is_outside.value ≡ (not c.is_outside.result && taken) =
     elim c.if-not-is_outside.branch [
@@ -26,7 +26,7 @@ returns-then-is_included c =
 pub returns-else-is_included : goal.returns-else-is_included
 unfolding claims
 returns-else-is_included c =
-    let site = site_in c.args.book.now c.args.row.now in
+    let site = site_in c.args.config.now in
     let taken = included site c.args.path.now (site.config.named include) in
     let e : c.if-not-is_outside.value ≡ (not c.is_outside.result && taken) =
     elim c.if-not-is_outside.branch [

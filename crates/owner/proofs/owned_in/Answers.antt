@@ -18,4 +18,4 @@ pub returns : goal.returns
 returns c =
     let a = c.args in
     let o = c.in_ok-project.ensures in
-    folder_loaded a.book.now a.path.now a.folder.now _ c.config_in.ensures _ c.in-Some.is _ _ _ _ o.answer c.owned_by.ensures
+    folder_loaded a.book.now a.path.now a.folder.now _ c.config_in.ensures _ c.in-Some.is _ _ _ _ o.answer (rw (c.new.ensures.book, c.new.ensures.row) at c.owned_by.ensures)

@@ -6,13 +6,9 @@ use Rattle.path.specs.Path.{same_path}
 use Rattle.tsconfig.specs.Config.{files}
 use Rattle.tsconfig.specs.Claims.{named_file}
 use Rattle.rows.specs.Rows.{slot}
-use Rattle.rows.proofs.Fields.{place_there}
 use Rattle.claims.proofs.Listed.{built_strings}
 use Rattle.claims.proofs.Sites.{field_none, files_some}
-use Rattle.claims.proofs.Built.is_in_files.Goals as goal
-
-pub supplier-requires-clause-there : goal.supplier-requires-clause-there
-supplier-requires-clause-there c = let s = c.args.self.now in place_there _ _ _ s.book.now.records _ s.named 0 (omega arith)
+use Rattle.claims.proofs.Claimant.is_in_files.Goals as goal
 
 pub returns-in-Some : goal.returns-in-Some
 unfolding named_file
@@ -20,10 +16,10 @@ returns-in-Some c =
     let s = c.args.self.now in
     let e = c.in-Some.ensures in
     let test = λ (f : Text). same_path f c.args.path.now in
-    rw (files_some s.book.now s.row.now s.named c.in-Some.supplier e.commands e.text e.at, ← s.place)
-    (any_from_yields_List test _ _ c.any.result c.any.ensures.ran (built_strings s.dir.now c.in-Some.supplier 3 c.strings.result c.strings.ensures.record c.strings.ensures.op) (λ x b q k. search (rules, tests))
+    rw (files_some s.config.now c.in-Some.supplier e.commands e.text e.at, ← s.config.now.place)
+    (any_from_yields_List test _ _ c.any.result c.any.ensures.ran (built_strings s.config.now.dir.now c.in-Some.supplier 3 c.strings.result c.strings.ensures.record c.strings.ensures.op) (λ x b q k. search (rules, tests))
     ∙ some_as_std test _)
 
 pub returns-in-None : goal.returns-in-None
 unfolding slot named_file
-returns-in-None c = let s = c.args.self.now in rw (field_none s.book.now s.row.now s.named files c.in-None.ensures.at)
+returns-in-None c = let s = c.args.self.now in rw (field_none s.config.now files c.in-None.ensures.at)

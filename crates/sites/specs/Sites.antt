@@ -1,0 +1,8 @@
+-- A config of the code as the definitions have it.
+use Rattle.tsconfig.specs.Claims.{Site}
+use Rattle.sites.specs.Configs.{site_at}
+use Rattle.sites.specs.declared.Config.{Config}
+
+-- the config, built at the path of its record
+abbrev pub site_in : Config → Site
+site_in c = site_at c.book.now c.row.now
