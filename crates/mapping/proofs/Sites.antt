@@ -32,25 +32,10 @@ use Rattle.rows.proofs.Fields.{found_place, found_rec, record_says, supplier_the
 use Rattle.choice.specs.Keyed.{built_key}
 use Rattle.targets.specs.Targets.{Lists}
 use Rattle.targets.proofs.Aims.{lists_none}
-use Rattle.mapping.specs.Asks.{config_at, dir_at, Asks}
+use Rattle.sites.specs.Sites.{settings_in}
+use Rattle.sites.specs.declared.Built.{Built}
+use Rattle.sites.specs.declared.Config.{Config}
 use Rattle.mapping.proofs.Mapped.{Few, few_none, paths_few}
-
--- The path of a good record is short
-
-first_short : (text : Text) (op : ℕ) (r : List Cmd) → each_of (good_command text) r ≡ true → IfSome (single text op r) (λ t. length t ≤ 512)
-unfolding single first_of only each_of
-first_short text op [] h = tt
-first_short text op (c ∷ r) h =
-    by_test (is op c) (λ t. rw t (good_short text c (both_left (good_command text c) (each_of (good_command text) r) h)))
-    (λ f. rw f (first_short text op r (both_right (good_command text c) (each_of (good_command text) r) h)))
-
-or_short : (o : Option Text) → IfSome o (λ t. length t ≤ 512) → length (unwrap_or o []) ≤ 512
-or_short None h = omega arith
-or_short (Some t) h = h
-
-path_short : (text : Text) (r : List Cmd) → each_of (good_command text) r ≡ true → length (record_path_of text r) ≤ 512
-unfolding record_path_of
-path_short text r h = or_short (single text command.begin r) (first_short text command.begin r h)
 
 -- What a row says
 
@@ -63,22 +48,24 @@ mapping_some : (text : Text) (r : List Cmd) → is_some (mapping text r) ≡ tru
 unfolding is_some
 mapping_some text r e = by_test (some_of (is command.paths) r) (λ t. mapping_is text r t) (λ f. absurd (true≢false (sym e ∙ ap is_some (mapping_not text r f))))
 
-module _ (b : CheckedBook) (row : List ℕ) (w : Row (records_in b) row) where
+module _ (c : Config) where
+  abbrev b : CheckedBook
+  b = c.book.now
+
   abbrev s : Text
   s = b.commands.now
 
   abbrev text : Text
   text = b.paths.text.now
 
-  -- what `supplier` asks for, at each place
-  pub place_asks : (k : ℕ) → k < 28 → (get_or row k 255 ≡ 255 → ⊥) → get_or row k 255 < length (records_in b)
-  place_asks k h = place_there s text b.paths.rows.now b.records row w k h
+  abbrev row : List ℕ
+  row = c.row.now
 
-  pub dir_is : dir_at b row ≡ dir_of text (read s (begin_of b.paths.rows.now (number_of row)))
-  dir_is = ap parent_of (site_path s text b.paths.rows.now b.records row w)
+  abbrev w : Row (records_in b) row
+  w = c.named
 
-  pub dir_at_short : length (dir_at b row) ≤ 512
-  dir_at_short = rw dir_is (dir_short (record_path_of text (read s (begin_of b.paths.rows.now (number_of row)))) (path_short text (read s (begin_of b.paths.rows.now (number_of row))) (good_each text _ (own_sound s text b.paths.rows.now b.records row w).each)))
+  pub dir_is : c.dir.now ≡ dir_of text (read s (begin_of b.paths.rows.now (number_of row)))
+  dir_is = c.place ∙ ap parent_of (site_path s text b.paths.rows.now b.records row w)
 
   -- the record that a place has names the field
   pub said_some : (f : Field) (rec : ℕ) → Some rec ≡ begin_at b.paths.rows.now row (slot f) → is_some (said text (read s rec) f) ≡ true
@@ -92,52 +79,61 @@ module _ (b : CheckedBook) (row : List ℕ) (w : Row (records_in b) row) where
 
 -- The aliases
 
-module _ (b : CheckedBook) (row : List ℕ) (base spec : Text) (at : ℕ) (a : Asks b row base spec at) where
+module _ (built : Built) (spec : Text) where
+  abbrev c : Config
+  c = built.config
+
+  abbrev base : Text
+  base = built.base.now
+
+  abbrev dir : Text
+  dir = c.dir.now
+
   abbrev config : Settings
-  config = config_at b row
+  config = settings_in c
 
   pub dotted : (k : Bool) → k ≡ starts dot spec → k ≡ true → aliases config spec ≡ []
   unfolding aliases
   dotted k e t = rw (← e, t)
 
   module _ (k : Bool) (e : k ≡ starts dot spec) (n : k ≡ false) where
-    pub unmapped : None ≡ begin_at b.paths.rows.now row 4 → aliases config spec ≡ []
+    pub unmapped : None ≡ begin_at (b c).paths.rows.now (row c) 4 → aliases config spec ≡ []
     unfolding aliases from_paths slot
     unmapped q =
-        let y : config.named paths ≡ None = site_none (s b row a.sound) (text b row a.sound) b.paths.rows.now b.records row a.sound (dir_at b row) (dir_is b row a.sound) base a.base_is paths q in
+        let y : config.named paths ≡ None = site_none (s c) (text c) (b c).paths.rows.now (b c).records (row c) (w c) dir (dir_is c) base built.value paths q in
         rw (← e, n, y)
 
-    module _ (rec : ℕ) (q : Some rec ≡ begin_at b.paths.rows.now row 4) where
-      named_is : config.named paths ≡ Some (map (built_key (dir_at b row) base) (keys_of b.paths.text.now (read b.commands.now rec)))
+    module _ (rec : ℕ) (q : Some rec ≡ begin_at (b c).paths.rows.now (row c) 4) where
+      named_is : config.named paths ≡ Some (map (built_key dir base) (keys_of (text c) (read (s c) rec)))
       unfolding slot built_value said plain
       named_is =
-          site_plain b.commands.now b.paths.text.now b.paths.rows.now b.records row a.sound (dir_at b row) (dir_is b row a.sound) base a.base_is paths refl rec q
-          ∙ ap (option_map (map (built_key (dir_at b row) base))) (mapping_some b.paths.text.now (read b.commands.now rec) (said_some b row a.sound paths rec q))
+          site_plain (s c) (text c) (b c).paths.rows.now (b c).records (row c) (w c) dir (dir_is c) base built.value paths refl rec q
+          ∙ ap (option_map (map (built_key dir base))) (mapping_some (text c) (read (s c) rec) (said_some c paths rec q))
 
-      pub mapped : from_paths spec (Some (map (built_key (dir_at b row) base) (keys_of b.paths.text.now (read b.commands.now rec)))) ≡ aliases config spec
+      pub mapped : from_paths spec (Some (map (built_key dir base) (keys_of (text c) (read (s c) rec)))) ≡ aliases config spec
       unfolding aliases
       mapped = sym (rw (← e, n, named_is))
 
-      mapped_few : Few 32768 (aliases config spec)
-      mapped_few =
-          let good = place_good b.commands.now b.paths.text.now b.paths.rows.now b.records row 4 rec (place_asks b row a.sound 4 (omega arith)) q in
+      mapped_few : length spec ≤ 512 → Few 32768 (aliases config spec)
+      mapped_few short =
+          let good = place_good (s c) (text c) (b c).paths.rows.now (b c).records (row c) 4 rec (place_there (s c) (text c) (b c).paths.rows.now (b c).records (row c) (w c) 4 (omega arith)) q in
           rw (← mapped)
-          (paths_few b.paths.text.now (dir_at b row) base spec 32768 (dir_at_short b row a.sound) a.base_short a.spec_short (read b.commands.now rec) good (omega (arith, record_length b.commands.now rec, b.records.small)))
+          (paths_few (text c) dir base spec 32768 c.short built.short short (read (s c) rec) good (omega (arith, record_length (s c) rec, (b c).records.small)))
 
     -- they are not many, nor long
-    pub aliases_few : Few 32768 (aliases config spec)
-    aliases_few = by_found (begin_at b.paths.rows.now row 4) refl
+    pub aliases_few : length spec ≤ 512 → Few 32768 (aliases config spec)
+    aliases_few short = by_found (begin_at (b c).paths.rows.now (row c) 4) refl
       where
-        by_found : (x : Option ℕ) → x ≡ begin_at b.paths.rows.now row 4 → Few 32768 (aliases config spec)
+        by_found : (x : Option ℕ) → x ≡ begin_at (b c).paths.rows.now (row c) 4 → Few 32768 (aliases config spec)
         by_found None z = few_none (unmapped z)
-        by_found (Some rec) z = mapped_few rec z
+        by_found (Some rec) z = mapped_few rec z short
 
   -- What baseUrl gives
 
-  pub base_unnamed : None ≡ begin_at b.paths.rows.now row 3 → from_base_url config spec (config.named base_url) ≡ []
+  pub base_unnamed : None ≡ begin_at (b c).paths.rows.now (row c) 3 → from_base_url config spec (config.named base_url) ≡ []
   unfolding from_base_url slot
   base_unnamed q =
-      let x : config.named base_url ≡ None = site_none b.commands.now b.paths.text.now b.paths.rows.now b.records row a.sound (dir_at b row) (dir_is b row a.sound) base a.base_is base_url q in
+      let x : config.named base_url ≡ None = site_none (s c) (text c) (b c).paths.rows.now (b c).records (row c) (w c) dir (dir_is c) base built.value base_url q in
       rw x
 
   from_base : (c : Settings) (v : Option Text) → is_some v ≡ true → from_base_url c spec v ≡ normalize_with c.base spec ∷ []
@@ -145,12 +141,12 @@ module _ (b : CheckedBook) (row : List ℕ) (base spec : Text) (at : ℕ) (a : A
   from_base c None e = absurd (true≢false (sym e))
   from_base c (Some v) e = refl
 
-  pub base_named : (rec : ℕ) → Some rec ≡ begin_at b.paths.rows.now row 3 → from_base_url config spec (config.named base_url) ≡ normalize_with base spec ∷ []
+  pub base_named : (rec : ℕ) → Some rec ≡ begin_at (b c).paths.rows.now (row c) 3 → from_base_url config spec (config.named base_url) ≡ normalize_with base spec ∷ []
   unfolding slot built_value said plain
   base_named rec q =
-      let x = site_plain b.commands.now b.paths.text.now b.paths.rows.now b.records row a.sound (dir_at b row) (dir_is b row a.sound) base a.base_is base_url refl rec q in
-      let n : is_some (config.named base_url) ≡ true = ap is_some x ∙ is_some_map (built_value (dir_at b row) base base_url) (said b.paths.text.now (read b.commands.now rec) base_url) ∙ said_some b row a.sound base_url rec q in
-      from_base config (config.named base_url) n ∙ ap (λ (t : Text). normalize_with t spec ∷ []) (sym a.base_is)
+      let x = site_plain (s c) (text c) (b c).paths.rows.now (b c).records (row c) (w c) dir (dir_is c) base built.value base_url refl rec q in
+      let n : is_some (config.named base_url) ≡ true = ap is_some x ∙ is_some_map (built_value dir base base_url) (said (text c) (read (s c) rec) base_url) ∙ said_some c base_url rec q in
+      from_base config (config.named base_url) n ∙ ap (λ (t : Text). normalize_with t spec ∷ []) (sym built.value)
 
 -- Lists where there is none
 

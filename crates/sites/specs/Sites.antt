@@ -1,4 +1,5 @@
 -- A config of the code as the definitions have it.
+use Rattle.tsconfig.specs.Build.{Settings}
 use Rattle.tsconfig.specs.Claims.{Site}
 use Rattle.sites.specs.Configs.{site_at}
 use Rattle.sites.specs.declared.Config.{Config}
@@ -6,3 +7,7 @@ use Rattle.sites.specs.declared.Config.{Config}
 -- the config, built at the path of its record
 abbrev pub site_in : Config → Site
 site_in c = site_at c.book.now c.row.now
+
+-- its fields and its base
+abbrev pub settings_in : Config → Settings
+settings_in c = (site_in c).config

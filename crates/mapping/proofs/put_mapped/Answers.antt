@@ -10,26 +10,26 @@ pub put_targets-requires-clause-room : goal.put_targets-requires-clause-room
 put_targets-requires-clause-room c =
     let r = c.args.record.now in
     let l : length (read r.commands.now r.at) ≤ 32768 = omega (arith, record_length r.commands.now r.at, c.requires.book) in
-    record { few = (equal_small r.text.now 32768 _ r.good l c.args.spec.now _ (sym c.equal_key.ensures.value ∙ ap (option_map key_of) c.in-Some.is)).few; near = c.requires.near }
+    record { few = (equal_small r.text.now 32768 _ r.good l c.args.spec.now _ (sym c.equal_key.ensures.value ∙ ap (option_map key_of) c.in-Some.is)).few; near = c.requires.asks.near }
 
 pub returns-in-Some : goal.returns-in-Some
 returns-in-Some c =
-    rw (← equal_wanted c.args.dir.now c.args.base.now c.args.spec.now _ _ (sym c.equal_key.ensures.value ∙ ap (option_map key_of) c.in-Some.is)) c.put_targets.ensures
+    rw (← equal_wanted c.args.built.now.config.dir.now c.args.built.now.base.now c.args.spec.now _ _ (sym c.equal_key.ensures.value ∙ ap (option_map key_of) c.in-Some.is)) c.put_targets.ensures
 
 pub returns-in_default-best_key : goal.returns-in_default-best_key
 returns-in_default-best_key c =
-    rw (none_wanted c.args.dir.now c.args.base.now c.args.spec.now _ (sym c.equal_key.ensures.value ∙ ap (option_map key_of) c.in_default.is) (sym c.best_key.ensures.value ∙ ap (option_map key_of) c.in_default-best_key.is)) (lists_none _)
+    rw (none_wanted c.args.built.now.config.dir.now c.args.built.now.base.now c.args.spec.now _ (sym c.equal_key.ensures.value ∙ ap (option_map key_of) c.in_default.is) (sym c.best_key.ensures.value ∙ ap (option_map key_of) c.in_default-best_key.is)) (lists_none _)
 
 pub put_targets-requires-2-clause-short : goal.put_targets-requires-2-clause-short
 put_targets-requires-2-clause-short c =
-    record { dir_short = c.requires.dir; base_short = c.requires.base; part_short = rw c.key_match.ensures (part_short c.args.spec.now _ (part_length c.in-Some-best_key.key.name.now c.args.spec.now) c.requires.spec) }
+    record { dir_short = c.args.built.now.config.short; base_short = c.args.built.now.short; part_short = rw c.key_match.ensures (part_short c.args.spec.now _ (part_length c.in-Some-best_key.key.name.now c.args.spec.now) c.requires.asks.spec_short) }
 
 pub put_targets-requires-2-clause-room : goal.put_targets-requires-2-clause-room
 put_targets-requires-2-clause-room c =
     let r = c.args.record.now in
     let l : length (read r.commands.now r.at) ≤ 32768 = omega (arith, record_length r.commands.now r.at, c.requires.book) in
-    record { few = (best_small r.text.now 32768 _ r.good l c.args.spec.now _ (sym c.best_key.ensures.value ∙ ap (option_map key_of) c.in-Some-best_key.is)).few; near = c.requires.near }
+    record { few = (best_small r.text.now 32768 _ r.good l c.args.spec.now _ (sym c.best_key.ensures.value ∙ ap (option_map key_of) c.in-Some-best_key.is)).few; near = c.requires.asks.near }
 
 pub returns : goal.returns
 returns c =
-    rw (← best_wanted c.args.dir.now c.args.base.now c.args.spec.now _ (sym c.equal_key.ensures.value ∙ ap (option_map key_of) c.in_default.is) _ (sym c.best_key.ensures.value ∙ ap (option_map key_of) c.in-Some-best_key.is) _ c.key_match.ensures) c.put_targets-2.ensures
+    rw (← best_wanted c.args.built.now.config.dir.now c.args.built.now.base.now c.args.spec.now _ (sym c.equal_key.ensures.value ∙ ap (option_map key_of) c.in_default.is) _ (sym c.best_key.ensures.value ∙ ap (option_map key_of) c.in-Some-best_key.is) _ c.key_match.ensures) c.put_targets-2.ensures
