@@ -7,15 +7,13 @@ ghost use Rattle.rows.specs.Checked.{records_in};
 ghost use Rattle.replies.specs.Replies.{fit, Told};
 ghost use Rattle.build_reply.specs.Reply.{build_reply};
 
-use book::{Fault, Refusal};
-use emit::Output;
 use listing::put_listing;
-use replies::{Numbers, copy_out, refuse, reply};
+use replies::{Numbers, write_reply};
 use rows::CheckedBook;
 use sites::site_number;
 
-// The listing of a row's config, where it fits the output. It is written to the scratch first, which counts it, and from there to the output; where
-// the scratch is too short it is written once more.
+// The listing of a row's config, where it fits the output.
+#[tactic(auto, unfolding(rows::specs::Rows::site_of))]
 pub fn write_listing(
     book: &CheckedBook,
     row: &[u8],
@@ -29,21 +27,8 @@ pub fn write_listing(
     requires short { length base.now ≤ 1600 }
     ensures { Told (fit (length out.old) (build_reply (records_in book.now) (site_of (records_in book.now) row.now) merges)) result out.old out.new }
 {
-    let mut counted = Output::new(scratch);
-    put_listing(&mut counted, book, row, base);
-    let need = counted.at;
-    if out.len() < need {
-        return refuse(Refusal {
-            fault: Fault::NoRoom,
-            place: need,
-        });
-    }
-    let number = site_number(row);
-    if need <= counted.bytes.len() {
-        let bytes = copy_out(counted.text(), out);
-        return reply(number, merges, bytes);
-    }
-    let mut answer = Output::new(out);
-    put_listing(&mut answer, book, row, base);
-    reply(number, merges, answer.at)
+    write_reply(scratch, out, |output| {
+        put_listing(output, book, row, base);
+        (site_number(row), merges)
+    })
 }

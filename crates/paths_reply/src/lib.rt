@@ -7,10 +7,9 @@ ghost use Rattle.targets.specs.Targets.{Lists};
 ghost use Rattle.replies.specs.Replies.{listed, Told};
 ghost use Rattle.paths_reply.specs.Paths.{paths_by};
 
-use book::{Fault, Refusal};
 use emit::Output;
 use mapping::put_candidates;
-use replies::{Numbers, copy_out, refuse, reply};
+use replies::{Numbers, write_reply};
 use rows::CheckedBook;
 use tries::put_tries;
 
@@ -33,7 +32,8 @@ fn put_paths(
     }
 }
 
-// The paths of a row's config, where they fit the output. They are written to the scratch first, as a listing is.
+// The paths of a row's config, where they fit the output.
+#[tactic(auto, unfolding(replies::specs::Replies::listed))]
 pub fn write_paths(
     directory: Option<&[u8]>,
     book: &CheckedBook,
@@ -47,20 +47,7 @@ pub fn write_paths(
     requires directory { IfSome directory (λ d. length d.now ≤ 512) }
     ensures { Told (listed (length out.old) (paths_by (option_copied directory.entry) specifier.now (config_at book.now row.now))) result out.old out.new }
 {
-    let mut counted = Output::new(scratch);
-    let count = put_paths(&mut counted, directory, book, row, base, specifier);
-    let size = counted.at;
-    if out.len() < size {
-        return refuse(Refusal {
-            fault: Fault::NoRoom,
-            place: size,
-        });
-    }
-    if size <= counted.bytes.len() {
-        let bytes = copy_out(counted.text(), out);
-        return reply(count, 0, bytes);
-    }
-    let mut wrote = Output::new(out);
-    let count = put_paths(&mut wrote, directory, book, row, base, specifier);
-    reply(count, 0, wrote.at)
+    write_reply(scratch, out, |output| {
+        (put_paths(output, directory, book, row, base, specifier), 0)
+    })
 }

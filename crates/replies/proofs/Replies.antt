@@ -11,7 +11,7 @@ use Rattle.emit.specs.Output.{Puts}
 use Rattle.emit.specs.declared.Output.{Output}
 use Rattle.emit.proofs.Emits.{written_whole, emits_length, emits_holds}
 use Rattle.book.specs.Answer.{refused, given}
-use Rattle.replies.specs.Replies.{Outcome, Reply, fit, listed, returned, output, numbers_of, Told}
+use Rattle.replies.specs.Replies.{Outcome, Reply, fit, returned, output, numbers_of, Told}
 use Rattle.tsconfig.specs.Laid.{laid}
 use Rattle.replies.specs.declared.Numbers.{Numbers}
 
@@ -66,11 +66,6 @@ listed_reply ts = record { first = length ts; second = 0; bytes = laid ts }
 
 pub told_as : (a b : Outcome) (r : Numbers) (old new : Text) → a ≡ b → Told b r old new → Told a r old new
 told_as a b r old new e t = record { numbers = t.numbers ∙ sym (ap returned e); bytes = t.bytes ∙ sym (ap (λ (x : Outcome). output x old) e) }
-
--- the paths laid out
-pub listed_fit : (room : ℕ) (ts : List Text) → listed room ts ≡ fit room (record { first = length ts; second = 0; bytes = laid ts })
-unfolding listed
-listed_fit room ts = refl
 
 -- the output as it was
 pub kept_told : (o : Outcome) (r : Numbers) (old : Text) (k p : ℕ) → o ≡ refused k p → numbers_of r ≡ returned (refused k p) → Told o r old old

@@ -1,6 +1,9 @@
 -- What is answered: the outcome of a question, the numbers returned and the output.
 use Rattle.std.specs.Prelude.{List, [], ◌∷◌, ◌++◌, cond, ℕ, ltb, length, drop, ◌≡◌}
+use Rattle.std.specs.Borrow.{MutBor}
 use Rattle.text.specs.Bytes.{Text}
+use Rattle.emit.specs.Output.{Puts}
+use Rattle.emit.specs.declared.Output.{Output}
 use Rattle.book.specs.Answer.{Answer, refused, given}
 use Rattle.tsconfig.specs.Laid.{laid}
 use Rattle.replies.specs.declared.Numbers.{Numbers}
@@ -45,3 +48,13 @@ numbers_of r = r.number ∷ r.place ∷ r.first ∷ r.second ∷ r.bytes ∷ []
 pub record Told (o : Outcome) (r : Numbers) (old new : Text) : Type 0 where
   pub numbers : numbers_of r ≡ returned o
   pub bytes : new ≡ output o old
+
+-- u is the output o with the reply's bytes written behind what it has, and n is its two numbers
+pub record PutsReply (r : Reply) (o u : Output) (n : ℕ × ℕ) : Type 0 where
+  pub first : n.0 ≡ r.first
+  pub second : n.1 ≡ r.second
+  pub puts : Puts r.bytes o u
+
+-- what a writer is called with and may leave, and the numbers that it gives: on output of which nothing is written, it writes the reply
+abbrev pub Writes : (MutBor Output → ℕ × ℕ → MutBor Output → Type 0) → Reply → Type 0
+Writes post r = (o u : MutBor Output) (n : ℕ × ℕ) → o.now.at ≡ 0 → post o n u → PutsReply r o.now u.now n
