@@ -23,7 +23,7 @@ use Rattle.tsconfig.specs.Build.{adjusted}
 use Rattle.tsconfig.specs.Listing.{row, rows, items, mapping, key_rows, decimal, if_named, flag_row, text_row}
 use Rattle.lines.specs.Lines.{dir_of, built_key, built_place, built_strings, built_roots, built_keys}
 use Rattle.fields.specs.Fields.{list_at, roots_at, url_at, place_at, mapping_at}
-use Rattle.options.specs.Options.{text_at}
+use Rattle.options.specs.Options.{text_value, option_line}
 
 -- Lines
 
@@ -184,8 +184,8 @@ module _ (dir : Text) (sd : length dir ≤ 512) where
   mapping_size base sb (Some r) few =
       omega (arith, mapping_length (built_keys r dir base), rows_keys r.text.now dir base sd sb (read r.commands.now r.at) (good r) (omega (arith, record_length r.commands.now r.at, few)), record_length r.commands.now r.at, few)
 
-pub text_size : (id : ℕ) (f : Option Record) → IfSome f Fits → length (text_at id f) ≤ 132000000
-unfolding text_at
+pub text_size : (id : ℕ) (f : Option Record) → IfSome f Fits → length (option_line (bytes "text ") id (text_value id f)) ≤ 132000000
+unfolding text_value option_line if_named text_row
 text_size id None few = omega arith
 text_size id (Some r) few = omega (arith, row_option r.text.now id (read r.commands.now r.at) (good r), record_length r.commands.now r.at, few)
 

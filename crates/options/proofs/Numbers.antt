@@ -1,14 +1,20 @@
 -- A line with a name and an id. Assumes nothing.
-use Rattle.std.proofs.Common.{◌≡◌, ℕ, ◌+◌, ◌-◌, ◌<◌, ◌≤◌, [], ◌∷◌, ◌++◌, ap, arith}
+use Rattle.std.proofs.Common.{◌≡◌, ℕ, ◌+◌, ◌-◌, ◌<◌, ◌≤◌, [], ◌∷◌, ◌++◌, Option, Some, None, Bor, option_copied, refl, ap, arith}
 use mathlib.Core.List.{append_assoc}
 use borrow.Author.Tests.{lt-ltb, le-ltb}
 use Rattle.text.specs.Bytes.{Text}
-use Rattle.tsconfig.specs.Listing.{row, decimal}
+use Rattle.tsconfig.specs.Listing.{row, decimal, if_named}
 use Rattle.lines.specs.Lines.{valued}
+use Rattle.options.specs.Options.{option_line}
 
-pub numbered : (name : Text) (id : ℕ) (v : Text) → row (name ++ decimal id) v ≡ name ++ (decimal id ++ valued v)
-unfolding row
-numbered name id v = append_assoc name (decimal id) (valued v)
+module _ (name : Text) (id : ℕ) (value : Option (Bor Text)) where
+  pub line_unset : value ≡ None → option_line name id (option_copied value) ≡ []
+  unfolding option_line if_named
+  line_unset e = rw e refl
+
+  pub line_set : (v : Bor Text) → value ≡ Some v → option_line name id (option_copied value) ≡ name ++ (decimal id ++ valued v.now)
+  unfolding option_line if_named row
+  line_set v e = rw e (append_assoc name (decimal id) (valued v.now))
 
 pub decimal_low : (id : ℕ) → id < 10 → decimal id ≡ (48 + id) ∷ []
 unfolding decimal

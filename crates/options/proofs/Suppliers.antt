@@ -1,7 +1,7 @@
 -- What a row's config says of a field, read at the record that supplies it. Assumes nothing.
 use Rattle.book.specs.Index.{begin_of}
-use Rattle.std.proofs.Common.{length, ◌≡◌, ℕ, suc, ◌+◌, ◌-◌, ◌<◌, ◌≤◌, List, [], ◌++◌, Bool, true, false, get_or, Option, Some, None, Bor, refl, sym, ap, ◌∙◌, arith, add-one}
-use Rattle.std.specs.Prelude.{option_map, option_copied, IfSome}
+use Rattle.std.proofs.Common.{length, ◌≡◌, ℕ, suc, ◌+◌, ◌-◌, ◌<◌, ◌≤◌, List, [], ◌++◌, Bool, true, get_or, Option, Some, None, refl, sym, ap, ◌∙◌, arith, add-one}
+use Rattle.std.specs.Prelude.{cond, option_map, IfSome}
 use mathlib.Core.List.{append_assoc}
 use Rattle.text.specs.Bytes.{Text, bytes}
 use Rattle.ends.specs.Ends.{parent_of}
@@ -11,13 +11,13 @@ use Rattle.record.specs.declared.place.Record.{Record}
 use Rattle.tsconfig.specs.Config.{Field, flag, text}
 use Rattle.tsconfig.specs.Parsed.{said, placed_value}
 use Rattle.tsconfig.specs.Build.{Settings, built_value}
-use Rattle.tsconfig.specs.Listing.{row, decimal, if_named, flag_row, text_row, flags, texts}
+use Rattle.tsconfig.specs.Listing.{row, if_named, flag_row, text_row, flags, texts}
 use Rattle.rows.specs.Rows.{absent, slot, number_of, site_of, Row, begin_at}
 use Rattle.rows.specs.Records.{dir_of}
 use Rattle.rows.specs.Checked.{records_in}
 use Rattle.rows.specs.declared.CheckedBook.{CheckedBook}
 use Rattle.rows.proofs.Fields.{place_there, slot_of_flag, slot_of_text, plain, site_path, site_none, site_at_lem, site_plain}
-use Rattle.options.specs.Options.{flag_at, text_at}
+use Rattle.options.specs.Options.{flag_value, text_value, option_line}
 
 -- x is the record that stands at the place of the row, if there is one
 pub record Supplied (b : CheckedBook) (row : List ℕ) (k : ℕ) (x : Option Record) : Type 0 where
@@ -47,6 +47,18 @@ built_text : (dir base : Text) (id : ℕ) (o : Option Text) → option_map (buil
 unfolding built_value
 built_text dir base id None = refl
 built_text dir base id (Some v) = refl
+
+-- The line of a field
+
+flag_shown : (id : ℕ) (o : Option Bool) → if_named (flag_row id) o ≡ option_line (bytes "flag ") id (option_map (λ (v : Bool). cond v (bytes "1") (bytes "0")) o)
+unfolding if_named flag_row option_line
+flag_shown id None = refl
+flag_shown id (Some v) = refl
+
+text_shown : (id : ℕ) (o : Option Text) → if_named (text_row id) o ≡ option_line (bytes "text ") id o
+unfolding if_named text_row option_line
+text_shown id None = refl
+text_shown id (Some v) = refl
 
 -- A field of the config, built at the directory and over the base, is what its supplier says
 
@@ -79,61 +91,25 @@ module _ (b : CheckedBook) (row : List ℕ) (w : Row (records_in b) row) where
     at_flag : (x : Option Record) → Supplied b row (8 + id) x → Supplied b row (slot (flag id)) x
     at_flag x s = rw (slot_of_flag id l) s
 
-    pub flag_named : (x : Option Record) → Supplied b row (8 + id) x → if_named (flag_row id) ((config_in b row).named (flag id)) ≡ flag_at id x
-    unfolding if_named flag_at plain said
-    flag_named None s = ap (if_named (flag_row id)) (none_at dir refl (config_in b row).base refl (flag id) (at_flag None s))
+    pub flag_named : (x : Option Record) → Supplied b row (8 + id) x → if_named (flag_row id) ((config_in b row).named (flag id)) ≡ option_line (bytes "flag ") id (flag_value id x)
+    unfolding plain said flag_value
+    flag_named None s = ap (if_named (flag_row id)) (none_at dir refl (config_in b row).base refl (flag id) (at_flag None s)) ∙ flag_shown id None
     flag_named (Some r) s =
         ap (if_named (flag_row id))
         (plain_at dir refl (config_in b row).base refl (flag id) refl r (at_flag (Some r) s) ∙ built_flag dir (config_in b row).base id (flag_of id (read r.commands.now r.at)))
+        ∙ flag_shown id (flag_of id (read r.commands.now r.at))
 
   module _ (id : ℕ) (l : id < 7) where
     at_text : (x : Option Record) → Supplied b row (19 + id) x → Supplied b row (slot (text id)) x
     at_text x s = rw (slot_of_text id l) s
 
-    pub text_named : (x : Option Record) → Supplied b row (19 + id) x → if_named (text_row id) ((config_in b row).named (text id)) ≡ text_at id x
-    unfolding if_named text_at plain said
-    text_named None s = ap (if_named (text_row id)) (none_at dir refl (config_in b row).base refl (text id) (at_text None s))
+    pub text_named : (x : Option Record) → Supplied b row (19 + id) x → if_named (text_row id) ((config_in b row).named (text id)) ≡ option_line (bytes "text ") id (text_value id x)
+    unfolding plain said text_value
+    text_named None s = ap (if_named (text_row id)) (none_at dir refl (config_in b row).base refl (text id) (at_text None s)) ∙ text_shown id None
     text_named (Some r) s =
         ap (if_named (text_row id))
         (plain_at dir refl (config_in b row).base refl (text id) refl r (at_text (Some r) s) ∙ built_text dir (config_in b row).base id (option_of r.text.now id (read r.commands.now r.at)))
-
--- Where an option has no supplier, and where it has one
-
-module _ (id : ℕ) (found : Option Record) where
-  pub flag_none : found ≡ None → flag_at id found ≡ []
-  unfolding flag_at
-  flag_none e = rw e refl
-
-  pub text_none : found ≡ None → text_at id found ≡ []
-  unfolding text_at
-  text_none e = rw e refl
-
-  module _ {r : Record} (e : found ≡ Some r) where
-    module _ {o : Option Bool} (v : o ≡ flag_of id (read r.commands.now r.at)) where
-      pub flag_unset : o ≡ None → flag_at id found ≡ []
-      unfolding flag_at if_named
-      flag_unset n = rw (e, sym v ∙ n) refl
-
-      pub flag_set : {y : Bool} → o ≡ Some y → flag_row id y ≡ flag_at id found
-      unfolding flag_at if_named
-      flag_set g = rw (e, sym v ∙ g) refl
-
-    module _ {o : Option (Bor Text)} (v : option_copied o ≡ option_of r.text.now id (read r.commands.now r.at)) where
-      pub text_unset : o ≡ None → text_at id found ≡ []
-      unfolding text_at if_named
-      text_unset n = rw (e, sym v ∙ ap option_copied n) refl
-
-      pub text_set : {y : Bor Text} → o ≡ Some y → row (bytes "text " ++ decimal id) y.now ≡ text_at id found
-      unfolding text_at if_named text_row
-      text_set g = rw (e, sym v ∙ ap option_copied g) refl
-
-pub flag_true : (id : ℕ) {y : Bool} → y ≡ true → row (bytes "flag " ++ decimal id) (bytes "1") ≡ flag_row id y
-unfolding flag_row
-flag_true id e = rw e refl
-
-pub flag_false : (id : ℕ) {y : Bool} → y ≡ false → row (bytes "flag " ++ decimal id) (bytes "0") ≡ flag_row id y
-unfolding flag_row
-flag_false id e = rw e refl
+        ∙ text_shown id (option_of r.text.now id (read r.commands.now r.at))
 
 -- The loops over the ids
 
@@ -154,11 +130,13 @@ module _ (c : Settings) (id : ℕ) where
   unfolding texts
   texts_on h = let z : 7 - id ≡ suc (7 - (id + 1)) = omega (arith, h) in rw (z, add-one) refl
 
-module _ (b : CheckedBook) (row : List ℕ) (w : Row (records_in b) row) (id : ℕ) (x : Option Record) where
-  pub flags_turn : (l : id < 11) → Supplied b row (8 + id) x → (y : Text) → flags (config_in b row) id (11 - id) ++ y ≡ flag_at id x ++ (flags (config_in b row) (id + 1) (11 - (id + 1)) ++ y)
-  flags_turn l s y =
+module _ (b : CheckedBook) (row : List ℕ) (w : Row (records_in b) row) (id : ℕ) (x : Option Record) (v : Option Text) where
+  pub flags_turn :
+      (l : id < 11) → Supplied b row (8 + id) x → v ≡ flag_value id x → (y : Text) →
+      flags (config_in b row) id (11 - id) ++ y ≡ option_line (bytes "flag ") id v ++ (flags (config_in b row) (id + 1) (11 - (id + 1)) ++ y)
+  flags_turn l s e y =
       let more = flags (config_in b row) (id + 1) (11 - (id + 1)) in
-      ap (λ (t : Text). t ++ y) (flags_on (config_in b row) id l ∙ ap (λ (t : Text). t ++ more) (flag_named b row w id l x s)) ∙ append_assoc (flag_at id x) more y
+      ap (λ (t : Text). t ++ y) (flags_on (config_in b row) id l ∙ ap (λ (t : Text). t ++ more) (flag_named b row w id l x s ∙ ap (option_line (bytes "flag ") id) (sym e))) ∙ append_assoc (option_line (bytes "flag ") id v) more y
 
-  pub texts_turn : (l : id < 7) → Supplied b row (19 + id) x → texts (config_in b row) id (7 - id) ≡ text_at id x ++ texts (config_in b row) (id + 1) (7 - (id + 1))
-  texts_turn l s = texts_on (config_in b row) id l ∙ ap (λ (t : Text). t ++ texts (config_in b row) (id + 1) (7 - (id + 1))) (text_named b row w id l x s)
+  pub texts_turn : (l : id < 7) → Supplied b row (19 + id) x → v ≡ text_value id x → texts (config_in b row) id (7 - id) ≡ option_line (bytes "text ") id v ++ texts (config_in b row) (id + 1) (7 - (id + 1))
+  texts_turn l s e = texts_on (config_in b row) id l ∙ ap (λ (t : Text). t ++ texts (config_in b row) (id + 1) (7 - (id + 1))) (text_named b row w id l x s ∙ ap (option_line (bytes "text ") id) (sym e))

@@ -1,13 +1,13 @@
 // The flags and the text options, written to lent output: a line each, by rising id, where it has a supplier.
 #![tactic(auto)]
 
-ghost use Rattle.std.specs.Prelude.{◌++◌, ◌<◌};
+ghost use Rattle.std.specs.Prelude.{◌≡◌, ◌<◌, option_copied};
 ghost use Rattle.emit.specs.Emit.{Room};
 ghost use Rattle.emit.specs.Output.{Puts};
-ghost use Rattle.tsconfig.specs.Listing.{row, decimal};
+ghost use Rattle.tsconfig.specs.Listing.{decimal};
 ghost use Rattle.rows.specs.Rows.{Row, site_of};
 ghost use Rattle.rows.specs.Checked.{records_in};
-ghost use Rattle.options.specs.Options.{flag_at, text_at, options_part};
+ghost use Rattle.options.specs.Options.{flag_value, text_value, option_line, options_part};
 
 use emit::Output;
 use lines::put_value;
@@ -27,45 +27,34 @@ fn put_decimal(out: &mut Output, id: u8)
     }
 }
 
-// Writes a name with an id, `=` and a value as a line.
-fn put_option(out: &mut Output, name: &[u8], id: u8, v: &[u8])
+// Writes an option that has a value as a line: a name with an id, `=` and the value.
+fn put_option(out: &mut Output, name: &[u8], id: u8, value: Option<&[u8]>)
     requires id { id < 20 }
-    requires room { Room out.old.at (row (name.now ++ decimal id) v.now) }
-    ensures { Puts (row (name.now ++ decimal id) v.now) out.old out.new }
+    requires room { Room out.old.at (option_line name.now id (option_copied value)) }
+    ensures { Puts (option_line name.now id (option_copied value.entry)) out.old out.new }
 {
+    let Some(value) = value else {
+        return;
+    };
     out.put_text(name);
     put_decimal(out, id);
-    put_value(out, v);
+    put_value(out, value);
 }
 
-// Writes a flag, if it has a supplier.
-fn put_flag(out: &mut Output, found: Option<Record>, id: u8)
-    requires id { id < 20 }
-    requires room { Room out.old.at (flag_at id found) }
-    ensures { Puts (flag_at id found.entry) out.old out.new }
+// What the supplier of a flag says of it, as a line has it.
+#[tactic(auto, unfolding(crate::specs::Options::flag_value))]
+fn flag_value(found: Option<Record>, id: u8) -> Option<&'static [u8]>
+    ensures { option_copied result ≡ flag_value id found.entry }
 {
-    let Some(record) = found else {
-        return;
-    };
-    match record.flag(id) {
-        Some(true) => put_option(out, b"flag ", id, b"1"),
-        Some(false) => put_option(out, b"flag ", id, b"0"),
-        None => {}
-    }
+    Some(if found?.flag(id)? { b"1" } else { b"0" })
 }
 
-// Writes a text option, if it has a supplier.
-fn put_text_option(out: &mut Output, found: Option<Record>, id: u8)
-    requires id { id < 20 }
-    requires room { Room out.old.at (text_at id found) }
-    ensures { Puts (text_at id found.entry) out.old out.new }
+// What the supplier of a text option says of it.
+#[tactic(auto, unfolding(crate::specs::Options::text_value))]
+fn text_value<'a>(found: Option<Record<'a>>, id: u8) -> Option<&'a [u8]>
+    ensures { option_copied result ≡ text_value id found.entry }
 {
-    let Some(record) = found else {
-        return;
-    };
-    if let Some(value) = record.text_option(id) {
-        put_option(out, b"text ", id, value);
-    }
+    found?.text_option(id)
 }
 
 // Writes the flags and the text options of a row's config.
@@ -75,9 +64,11 @@ pub fn put_options(out: &mut Output, book: &CheckedBook, row: &[u8])
     ensures { Puts (options_part (site_of (records_in book.now) row.now).config) out.old out.new }
 {
     for id in 0..11u8 {
-        put_flag(out, book.supplier(row, places::FLAGS + usize::from(id)), id);
+        let found = book.supplier(row, places::FLAGS + usize::from(id));
+        put_option(out, b"flag ", id, flag_value(found, id));
     }
     for id in 0..7u8 {
-        put_text_option(out, book.supplier(row, places::TEXTS + usize::from(id)), id);
+        let found = book.supplier(row, places::TEXTS + usize::from(id));
+        put_option(out, b"text ", id, text_value(found, id));
     }
 }
