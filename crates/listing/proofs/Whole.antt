@@ -1,7 +1,7 @@
 -- The listing of a row of suppliers is what its suppliers say, field by field. Assumes nothing.
 use Rattle.book.specs.Index.{begin_of}
 use mathlib.Core.Path.{◌≡◌, refl, sym, ap, ◌∙◌}
-use mathlib.Core.List.{List, [], ◌∷◌, ◌++◌, map, append_assoc, append-nil}
+use mathlib.Core.List.{List, [], ◌∷◌, ◌++◌, map, append_assoc}
 use mathlib.Core.Bool.{true, true≢false}
 use Rattle.std.specs.Prelude.{Option, Some, None, option_map, IfSome}
 use Prim.Native.Nat.{ℕ, zero, suc, ◌+◌, ◌*◌, ◌≤◌, ◌<◌}
@@ -316,58 +316,3 @@ module _ (b : CheckedBook) (row : List ℕ) (w : Row (records_in b) row) where
       listing_is =
           by_parts (record_at (records_in b) (number_of row)).references (config_in b row)
           ∙ ap (λ (l : List Text). lists_part (config_in b row) ++ base_part l (config_in b row)) (sym (own_references b row w r s))
-
--- A field and what follows it
-
-module _ (b : CheckedBook) (row : List ℕ) where
-  abbrev pub after_files : Text
-  after_files =
-      if_named (items (bytes "include")) ((config_in b row).named config.include)
-      ++ (if_named (items (bytes "exclude")) ((config_in b row).named config.exclude) ++ if_named (listings.row (bytes "baseUrl")) ((config_in b row).named config.base_url))
-
-  abbrev pub after_include : Text
-  after_include = if_named (items (bytes "exclude")) ((config_in b row).named config.exclude) ++ if_named (listings.row (bytes "baseUrl")) ((config_in b row).named config.base_url)
-
-  abbrev pub after_roots : Text
-  after_roots =
-      if_named (listings.row (bytes "outDir")) ((config_in b row).named config.out_dir)
-      ++ (if_named (listings.row (bytes "declarationDir")) ((config_in b row).named config.declaration_dir) ++ options_part (config_in b row))
-
-  abbrev pub after_out : Text
-  after_out = if_named (listings.row (bytes "declarationDir")) ((config_in b row).named config.declaration_dir) ++ options_part (config_in b row)
-
-  abbrev pub after_base : List Text → Text
-  after_base references = if_named listings.mapping ((config_in b row).named config.paths) ++ (rows (bytes "reference") references ++ places_part (config_in b row))
-
-  pub base_first : (references : List Text) (base : Text) → base ≡ (config_in b row).base → base_part references (config_in b row) ≡ listings.row (bytes "base") base ++ after_base references
-  unfolding base_part
-  base_first references base bs = ap (λ (t : Text). listings.row (bytes "base") t ++ after_base references) (sym bs)
-
-  module _ (w : Row (records_in b) row) (dir : Text) (d : dir ≡ parent_of (site_of (records_in b) row).path) (x : Option Record) where
-    pub paths_first :
-        (references : List Text) (base : Text) → base ≡ (config_in b row).base → Supplied b row 4 x →
-        after_base references ≡ mapping_at dir base x ++ (rows (bytes "reference") references ++ places_part (config_in b row))
-    paths_first references base bs s = ap (λ (t : Text). t ++ (rows (bytes "reference") references ++ places_part (config_in b row))) (paths_part b row w dir d base bs x s)
-
-    pub files_first : Supplied b row 0 x → lists_part (config_in b row) ≡ list_at (bytes "files") dir command.file x ++ after_files
-    unfolding lists_part
-    files_first s = ap (λ (t : Text). t ++ after_files) (files_part b row w dir d (config_in b row).base refl x s)
-
-    pub include_first : Supplied b row 1 x → after_files ≡ list_at (bytes "include") dir command.include_item x ++ after_include
-    include_first s = ap (λ (t : Text). t ++ after_include) (include_part b row w dir d (config_in b row).base refl x s)
-
-    pub exclude_first : Supplied b row 2 x → after_include ≡ list_at (bytes "exclude") dir command.exclude_item x ++ if_named (listings.row (bytes "baseUrl")) ((config_in b row).named config.base_url)
-    exclude_first s = ap (λ (t : Text). t ++ if_named (listings.row (bytes "baseUrl")) ((config_in b row).named config.base_url)) (exclude_part b row w dir d (config_in b row).base refl x s)
-
-    pub url_first : Supplied b row 3 x → if_named (listings.row (bytes "baseUrl")) ((config_in b row).named config.base_url) ≡ url_at dir x ++ []
-    url_first s = url_part b row w dir d (config_in b row).base refl x s ∙ sym (append-nil (url_at dir x))
-
-    pub roots_first : Supplied b row 5 x → places_part (config_in b row) ≡ roots_at dir x ++ after_roots
-    unfolding places_part
-    roots_first s = ap (λ (t : Text). t ++ after_roots) (roots_part b row w dir d (config_in b row).base refl x s)
-
-    pub out_first : Supplied b row 6 x → after_roots ≡ place_at (bytes "outDir") dir command.out_dir x ++ after_out
-    out_first s = ap (λ (t : Text). t ++ after_out) (out_part b row w dir d (config_in b row).base refl x s)
-
-    pub declarations_first : Supplied b row 7 x → after_out ≡ place_at (bytes "declarationDir") dir command.declaration_dir x ++ options_part (config_in b row)
-    declarations_first s = ap (λ (t : Text). t ++ options_part (config_in b row)) (declarations_part b row w dir d (config_in b row).base refl x s)
