@@ -27,7 +27,8 @@ use Rattle.rows.proofs.Fields.{site_none, site_at_lem}
 use Rattle.targets.specs.Targets.{Lists}
 use Rattle.targets.proofs.Lays.{laid_append}
 use Rattle.roots.specs.Roots.{roots_of}
-use Rattle.mapping.specs.Asks.{config_at, dir_at}
+use Rattle.sites.specs.Sites.{settings_in}
+use Rattle.sites.specs.declared.Config.{Config}
 use Rattle.mapping.proofs.Mapped.{map_map}
 use Rattle.mapping.proofs.Sites.{said_some, dir_is}
 
@@ -37,24 +38,30 @@ listed_some : (text : Text) (mark item : ℕ) (r : List Cmd) → is_some (listed
 unfolding is_some
 listed_some text mark item r e = by_test (some_of (is mark) r) (λ t. listed_is text r mark item t) (λ f. absurd (true≢false (sym e ∙ ap is_some (listed_not text r mark item f))))
 
-module _ (b : CheckedBook) (row : List ℕ) (w : Row (records_in b) row) where
+module _ (c : Config) where
+  abbrev b : CheckedBook
+  b = c.book.now
+
+  abbrev row : List ℕ
+  row = c.row.now
+
   abbrev config : Settings
-  config = config_at b row
+  config = settings_in c
 
   pub roots_none : (p : Text) → None ≡ begin_at b.paths.rows.now row 5 → root_tries p (config.named root_dirs) ≡ []
   unfolding root_tries slot
   roots_none p q =
-      let y : config.named root_dirs ≡ None = site_none b.commands.now b.paths.text.now b.paths.rows.now b.records row w (dir_at b row) (dir_is b row w) config.base refl root_dirs q in
+      let y : config.named root_dirs ≡ None = site_none b.commands.now b.paths.text.now b.paths.rows.now b.records row c.named c.dir.now (dir_is c) config.base refl root_dirs q in
       rw y
 
-  pub roots_named : (rec : ℕ) → Some rec ≡ begin_at b.paths.rows.now row 5 → config.named root_dirs ≡ Some (roots_of b.commands.now b.paths.text.now (dir_at b row) (dir_of b.paths.text.now (read b.commands.now rec)) rec)
+  pub roots_named : (rec : ℕ) → Some rec ≡ begin_at b.paths.rows.now row 5 → config.named root_dirs ≡ Some (roots_of b.commands.now b.paths.text.now c.dir.now (dir_of b.paths.text.now (read b.commands.now rec)) rec)
   unfolding slot built_value placed_value said
   roots_named rec q =
       let own = dir_of b.paths.text.now (read b.commands.now rec) in
-      site_at_lem b.commands.now b.paths.text.now b.paths.rows.now b.records row w (dir_at b row) (dir_is b row w) config.base refl root_dirs rec q
-      ∙ ap (λ (o : Option (List Text)). option_map (built_value (dir_at b row) config.base root_dirs) (option_map (placed_value own root_dirs) o))
-      (listed_some b.paths.text.now command.root_dirs command.root_dir (read b.commands.now rec) (said_some b row w root_dirs rec q))
-      ∙ ap Some (map_map (substituted (dir_at b row)) (placed own) (strings b.paths.text.now command.root_dir (read b.commands.now rec)))
+      site_at_lem b.commands.now b.paths.text.now b.paths.rows.now b.records row c.named c.dir.now (dir_is c) config.base refl root_dirs rec q
+      ∙ ap (λ (o : Option (List Text)). option_map (built_value c.dir.now config.base root_dirs) (option_map (placed_value own root_dirs) o))
+      (listed_some b.paths.text.now command.root_dirs command.root_dir (read b.commands.now rec) (said_some c root_dirs rec q))
+      ∙ ap Some (map_map (substituted c.dir.now) (placed own) (strings b.paths.text.now command.root_dir (read b.commands.now rec)))
 
 -- The tries of a config
 

@@ -1,5 +1,5 @@
 use Rattle.std.proofs.Common.{arith}
-use Rattle.mapping.proofs.Sites.{place_asks, aliases_few, base_unnamed, base_named, lists_empty}
+use Rattle.mapping.proofs.Sites.{aliases_few, base_unnamed, base_named, lists_empty}
 use Rattle.tries.proofs.Tries.{inside, dotted, unread, read_too}
 use Rattle.tries.proofs.put_tries.Goals as goal
 
@@ -10,25 +10,22 @@ pub returns-then-starts_dot : goal.returns-then-starts_dot
 returns-then-starts_dot c =
     rw (← dotted _ _ _ _ c.inside_node_modules.ensures c.if-inside_node_modules.false _ c.starts_dot.ensures c.if-starts_dot.true) c.put_from_roots.ensures
 
-pub supplier-requires-clause-there : goal.supplier-requires-clause-there
-supplier-requires-clause-there c = place_asks c.args.book.now c.args.row.now c.requires.asks.sound 3 (omega arith)
-
 pub put_read-requires-clause-near : goal.put_read-requires-clause-near
 put_read-requires-clause-near c =
-    let few = aliases_few _ _ _ _ _ c.requires.asks _ c.starts_dot.ensures c.if-starts_dot.false in
+    let few = aliases_few c.args.built.now _ _ c.starts_dot.ensures c.if-starts_dot.false c.requires.asks.spec_short in
     omega (arith, c.put_aliases-mapped.ensures.puts.wrote.next, few.size, c.requires.asks.near)
 
 pub overflow_add-result : goal.overflow_add-result
 overflow_add-result c =
-    let few = aliases_few _ _ _ _ _ c.requires.asks _ c.starts_dot.ensures c.if-starts_dot.false in
+    let few = aliases_few c.args.built.now _ _ c.starts_dot.ensures c.if-starts_dot.false c.requires.asks.spec_short in
     omega (arith, c.put_aliases-mapped.ensures.counts, few.count)
 
 pub returns-in-Some : goal.returns-in-Some
 returns-in-Some c =
     read_too _ _ _ _ c.inside_node_modules.ensures c.if-inside_node_modules.false _ c.starts_dot.ensures c.if-starts_dot.false _ _ _ c.put_aliases-mapped.ensures _
-    (base_named _ _ _ _ _ c.requires.asks _ c.in-Some.ensures.at) _ c.put_read.ensures
+    (base_named c.args.built.now _ _ c.in-Some.ensures.at) _ c.put_read.ensures
 
 pub returns-in-None : goal.returns-in-None
 returns-in-None c =
     unread _ _ _ _ c.inside_node_modules.ensures c.if-inside_node_modules.false _ c.starts_dot.ensures c.if-starts_dot.false _ _ _ c.put_aliases-mapped.ensures
-    (base_unnamed _ _ _ _ _ c.requires.asks c.in-None.ensures.at)
+    (base_unnamed c.args.built.now _ c.in-None.ensures.at)
