@@ -153,6 +153,11 @@ module _ (built : Built) (spec : Text) where
 pub lists_empty : (ts : List Text) (o : Output) → ts ≡ [] → Lists ts o o 0
 lists_empty ts o e = rw e (lists_none o)
 
+-- Lists where there is one
+
+pub lists_one : (ts : List Text) (o u : Output) (t : Text) → ts ≡ t ∷ [] → Puts (laid (t ∷ [])) o u → Lists ts o u 1
+lists_one ts o u t e p = rw e (record { counts = refl; puts = p })
+
 -- The candidates, where the mapping gave n
 
 module _ (c : Settings) (spec : Text) (o u : Output) (n : ℕ) (y : Lists (aliases c spec) o u n) where
@@ -184,9 +189,6 @@ module _ (c : Settings) (spec : Text) (o u : Output) (n : ℕ) (y : Lists (alias
     unfolding candidates or_if_none
     by_base = rw no_alias
 
-    pub none_given : from_base_url c spec (c.named base_url) ≡ [] → Lists (candidates c spec) o u 0
-    unfolding laid
-    none_given e = rw (by_base, e) (record { counts = refl; puts = none_puts })
-
-    pub base_given : (t : Text) → from_base_url c spec (c.named base_url) ≡ t ∷ [] → (v : Output) → Puts (laid (t ∷ [])) u v → Lists (candidates c spec) o v 1
-    base_given t e v p = rw (by_base, e) (record { counts = refl; puts = puts_both [] _ o u v none_puts p })
+    -- what baseUrl gives is all
+    pub none_mapped : (v : Output) (m : ℕ) → Lists (from_base_url c spec (c.named base_url)) u v m → Lists (candidates c spec) o v m
+    none_mapped v m l = rw by_base (record { counts = l.counts; puts = puts_both [] _ o u v none_puts l.puts })

@@ -1,12 +1,13 @@
 // What a specifier maps to: the key of `paths` that is chosen, its targets, and the candidates.
 #![tactic(auto)]
 
-ghost use Rattle.std.specs.Prelude.{◌≡◌, ◌≤◌, map, length, Some, None};
+ghost use Rattle.std.specs.Prelude.{◌≡◌, ◌<◌, ◌≤◌, ◌^◌, map, length, Some};
 ghost use Rattle.text.specs.Bytes.{dot};
 ghost use Rattle.components.specs.Components.{starts};
 ghost use Rattle.book.specs.Record.{keys_of};
 ghost use Rattle.record.specs.Good.{read};
-ghost use Rattle.tsconfig.specs.Mapping.{from_paths, aliases, candidates};
+ghost use Rattle.tsconfig.specs.Config.{base_url};
+ghost use Rattle.tsconfig.specs.Mapping.{from_paths, aliases, from_base_url, candidates};
 ghost use Rattle.sites.specs.Sites.{settings_in};
 ghost use Rattle.mapping.specs.Asks.{Asks};
 ghost use Rattle.choice.specs.Keyed.{built_key};
@@ -60,6 +61,22 @@ pub fn put_aliases(out: &mut Output, built: &Built, spec: &[u8]) -> usize
     }
 }
 
+// Writes the specifier read from the base, where baseUrl is named, and gives how many paths that is.
+pub fn put_from_base(out: &mut Output, built: &Built, spec: &[u8]) -> usize
+    requires spec { length spec.now ≤ 512 }
+    requires near { out.old.at < 2 ^ 62 }
+    ensures paths { Lists (from_base_url (settings_in built.now.config) spec.now ((settings_in built.now.config).named base_url)) out.old out.new result }
+    ensures one { result ≤ 1 }
+{
+    match built.config.supplier(places::BASE_URL) {
+        Some(_) => {
+            put_read(out, built.base, spec);
+            1
+        }
+        None => 0,
+    }
+}
+
 // Writes the candidates of the config for the specifier, and gives how many they are: what the mapping gives, and where it gives none and
 // baseUrl is named, the specifier read from the base.
 pub fn put_candidates(out: &mut Output, built: &Built, spec: &[u8]) -> usize
@@ -70,11 +87,5 @@ pub fn put_candidates(out: &mut Output, built: &Built, spec: &[u8]) -> usize
     if 0 < count {
         return count;
     }
-    match built.config.supplier(places::BASE_URL) {
-        Some(_) => {
-            put_read(out, built.base, spec);
-            1
-        }
-        None => 0,
-    }
+    put_from_base(out, built, spec)
 }

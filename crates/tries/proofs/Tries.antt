@@ -80,11 +80,9 @@ module _ (c : Settings) (directory spec : Text) (k : Bool) (e : k ≡ inside_nod
       unfolding tries
       plain = rw (← e, n, ← w, f)
 
-      pub unread : from_base_url c spec (c.named base_url) ≡ [] → Lists (tries c directory spec) o u i
-      unread z = rw (plain, z, append-nil (aliases c spec)) y
-
-      pub read_too : (t : Text) → from_base_url c spec (c.named base_url) ≡ t ∷ [] → (v : Output) → Puts (laid (t ∷ [])) u v → Lists (tries c directory spec) o v (i + 1)
-      read_too t z v p = rw (plain, z) (record {
-        counts = omega (arith, y.counts, length-append (aliases c spec) (t ∷ []));
-        puts = rw (laid_append (aliases c spec) (t ∷ [])) (puts_both _ _ o u v y.puts p);
+      -- with what baseUrl gives
+      pub read_too : (v : Output) (j : ℕ) → Lists (from_base_url c spec (c.named base_url)) u v j → Lists (tries c directory spec) o v (i + j)
+      read_too v j l = rw plain (record {
+        counts = omega (arith, y.counts, l.counts, length-append (aliases c spec) (from_base_url c spec (c.named base_url)));
+        puts = rw (laid_append (aliases c spec) (from_base_url c spec (c.named base_url))) (puts_both _ _ o u v y.puts l.puts);
       })

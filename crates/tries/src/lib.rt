@@ -13,11 +13,10 @@ ghost use Rattle.targets.specs.Targets.{Lists};
 use component_walk::inside_node_modules;
 use emit::Output;
 use join::normalize_with;
-use mapping::{put_aliases, starts_dot};
+use mapping::{put_aliases, put_from_base, starts_dot};
 use root_tries::put_root_tries;
 use rows::places;
 use sites::{Built, Config};
-use targets::put_read;
 
 // Writes the tries of a specifier that starts with a dot, and gives how many they are: read from the directory, in the root dirs of the row's config.
 fn put_from_roots(out: &mut Output, config: &Config, directory: &[u8], spec: &[u8]) -> usize
@@ -46,11 +45,5 @@ pub fn put_tries(out: &mut Output, built: &Built, directory: &[u8], spec: &[u8])
         return put_from_roots(out, &built.config, directory, spec);
     }
     let mapped = put_aliases(out, built, spec);
-    match built.config.supplier(places::BASE_URL) {
-        Some(_) => {
-            put_read(out, built.base, spec);
-            mapped + 1
-        }
-        None => mapped,
-    }
+    mapped + put_from_base(out, built, spec)
 }
