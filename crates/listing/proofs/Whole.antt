@@ -33,7 +33,8 @@ use Rattle.rows.proofs.Fields.{plain, found_place, found_rec, found_none, record
 use Rattle.lines.specs.Lines.{built_place}
 use Rattle.fields.specs.Fields.{list_at, roots_at, url_at, place_at, mapping_at}
 use Rattle.options.specs.Options.{options_part}
-use Rattle.options.proofs.Suppliers.{Supplied, config_in, none_at, some_at, plain_at, text_named}
+use Rattle.sites.specs.Configs.{Supplied}
+use Rattle.options.proofs.Suppliers.{config_in, none_at, some_at, plain_at, text_named}
 use Rattle.listing.specs.Parts.{lists_part, places_part, base_part}
 use Rattle.listing.proofs.Sizes.{Fits, row_length, references_size, list_size, roots_size, url_size, place_size, mapping_size, text_size, flag_line}
 use Rattle.emit.specs.Emit.{Room}

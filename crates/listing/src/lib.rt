@@ -1,14 +1,11 @@
 // A build's whole output, written to lent output: the fields in turn, each as its supplier says it and as built.
 #![tactic(auto)]
 
-ghost use Rattle.std.specs.Prelude.{◌≡◌, ◌≤◌, length};
-ghost use Rattle.ends.specs.Ends.{parent_of};
+ghost use Rattle.std.specs.Prelude.{◌≤◌};
 ghost use Rattle.emit.specs.Emit.{Room};
 ghost use Rattle.emit.specs.Output.{Puts};
 ghost use Rattle.tsconfig.specs.Listing.{listing};
-ghost use Rattle.tsconfig_resolver.specs.Find as find;
-ghost use Rattle.rows.specs.Rows.{Row, number_of, site_of};
-ghost use Rattle.rows.specs.Checked.{records_in};
+ghost use Rattle.sites.specs.Sites.{record_in, settings_in};
 ghost use Rattle.listing.specs.Parts.{lists_part, places_part};
 
 use book::{DECLARATION_DIR, EXCLUDE_ITEM, FILE, INCLUDE_ITEM, OUT_DIR};
@@ -16,78 +13,51 @@ use emit::Output;
 use fields::{put_list, put_mapping, put_place, put_roots, put_url};
 use lines::{put_references, put_row};
 use options::put_options;
-use rows::{CheckedBook, places};
+use rows::places;
+use sites::{Built, Config};
 
 // The fields other than the options stand at the places 0 to 7 of a row.
 
 // Writes what comes before the base.
-fn put_lists(out: &mut Output, book: &CheckedBook, row: &[u8], dir: &[u8])
-    requires row { Row (records_in book.now) row.now }
-    requires dir { dir.now ≡ parent_of (site_of (records_in book.now) row.now).path }
-    requires short { length dir.now ≤ 512 }
-    requires room { Room out.old.at (lists_part (site_of (records_in book.now) row.now).config) }
-    ensures { Puts (lists_part (site_of (records_in book.now) row.now).config) out.old out.new }
+fn put_lists(out: &mut Output, config: &Config)
+    requires { Room out.old.at (lists_part (settings_in config.now)) }
+    ensures { Puts (lists_part (settings_in config.now)) out.old out.new }
 {
-    put_list(out, book.supplier(row, places::FILES), FILE, b"files", dir);
-    put_list(
-        out,
-        book.supplier(row, places::INCLUDE),
-        INCLUDE_ITEM,
-        b"include",
-        dir,
-    );
-    put_list(
-        out,
-        book.supplier(row, places::EXCLUDE),
-        EXCLUDE_ITEM,
-        b"exclude",
-        dir,
-    );
-    put_url(out, book.supplier(row, places::BASE_URL), dir);
+    let dir = config.dir;
+    let include = config.supplier(places::INCLUDE);
+    let exclude = config.supplier(places::EXCLUDE);
+    put_list(out, config.supplier(places::FILES), FILE, b"files", dir);
+    put_list(out, include, INCLUDE_ITEM, b"include", dir);
+    put_list(out, exclude, EXCLUDE_ITEM, b"exclude", dir);
+    put_url(out, config.supplier(places::BASE_URL), dir);
 }
 
 // Writes what follows the references.
-fn put_places(out: &mut Output, book: &CheckedBook, row: &[u8], dir: &[u8])
-    requires row { Row (records_in book.now) row.now }
-    requires dir { dir.now ≡ parent_of (site_of (records_in book.now) row.now).path }
-    requires short { length dir.now ≤ 512 }
-    requires room { Room out.old.at (places_part (site_of (records_in book.now) row.now).config) }
-    ensures { Puts (places_part (site_of (records_in book.now) row.now).config) out.old out.new }
+fn put_places(out: &mut Output, config: &Config)
+    requires { Room out.old.at (places_part (settings_in config.now)) }
+    ensures { Puts (places_part (settings_in config.now)) out.old out.new }
 {
-    put_roots(out, book.supplier(row, places::ROOT_DIRS), dir);
-    put_place(
-        out,
-        book.supplier(row, places::OUT_DIR),
-        OUT_DIR,
-        b"outDir",
-        dir,
-    );
-    put_place(
-        out,
-        book.supplier(row, places::DECLARATION_DIR),
-        DECLARATION_DIR,
-        b"declarationDir",
-        dir,
-    );
-    put_options(out, book, row);
+    let dir = config.dir;
+    let out_dir = config.supplier(places::OUT_DIR);
+    let declarations = config.supplier(places::DECLARATION_DIR);
+    put_roots(out, config.supplier(places::ROOT_DIRS), dir);
+    put_place(out, out_dir, OUT_DIR, b"outDir", dir);
+    put_place(out, declarations, DECLARATION_DIR, b"declarationDir", dir);
+    put_options(out, config);
 }
 
-// Writes the whole output of a build, as far as the output reaches, and counts all of it. The row is that of the built config, and `base` its
-// built base.
-pub fn put_listing(out: &mut Output, book: &CheckedBook, row: &[u8], base: &[u8])
-    requires row { Row (records_in book.now) row.now }
-    requires base { base.now ≡ (site_of (records_in book.now) row.now).config.base }
-    requires short { length base.now ≤ 1600 }
-    requires start { out.old.at ≤ 65536 }
-    ensures { Puts (listing (find.record_at (records_in book.now) (number_of row.now)).references (site_of (records_in book.now) row.now).config) out.old out.new }
+// Writes the whole output of a build, as far as the output reaches, and counts all of it.
+pub fn put_listing(out: &mut Output, built: &Built)
+    requires { out.old.at ≤ 65536 }
+    ensures { Puts (listing (record_in built.now.config).references (settings_in built.now.config)) out.old out.new }
 {
-    let Some(own) = book.supplier(row, places::OWN) else {
+    let config = &built.config;
+    let Some(own) = config.supplier(places::OWN) else {
         return;
     };
-    let dir = own.dir();
-    put_lists(out, book, row, dir);
-    put_row(out, b"base", base);
-    put_mapping(out, book.supplier(row, places::PATHS), dir, base);
+    put_lists(out, config);
+    put_row(out, b"base", built.base);
+    put_mapping(out, config.supplier(places::PATHS), config.dir, built.base);
     put_references(out, &own);
-    put_places(out, book, row, dir);
+    put_places(out, config);
 }

@@ -17,26 +17,12 @@ use Rattle.rows.specs.Records.{dir_of}
 use Rattle.rows.specs.Checked.{records_in}
 use Rattle.rows.specs.declared.CheckedBook.{CheckedBook}
 use Rattle.rows.proofs.Fields.{place_there, slot_of_flag, slot_of_text, plain, site_path, site_none, site_at_lem, site_plain}
+use Rattle.sites.specs.Configs.{Supplied}
 use Rattle.options.specs.Options.{flag_value, text_value, option_line}
-
--- x is the record that stands at the place of the row, if there is one
-pub record Supplied (b : CheckedBook) (row : List ℕ) (k : ℕ) (x : Option Record) : Type 0 where
-  pub at : option_map (λ (r : Record). r.at) x ≡ begin_at b.paths.rows.now row k
-  pub commands : IfSome x (λ r. r.commands.now ≡ b.commands.now)
-  pub text : IfSome x (λ r. r.text.now ≡ b.paths.text.now)
-
-pub supplied :
-    (b : CheckedBook) (row : List ℕ) (k : ℕ) (x : Option Record) → option_map (λ (r : Record). r.at) x ≡ begin_at b.paths.rows.now row k →
-    IfSome x (λ r. r.commands.now ≡ b.commands.now) → IfSome x (λ r. r.text.now ≡ b.paths.text.now) → Supplied b row k x
-supplied b row k x e c t = record { at = e; commands = c; text = t }
 
 -- the config of a row
 abbrev pub config_in : CheckedBook → List ℕ → Settings
 config_in b row = (site_of (records_in b) row).config
-
--- what stands at a place of the row is a record of the book
-pub in_book : (b : CheckedBook) (row : List ℕ) → Row (records_in b) row → (k : ℕ) → k < 28 → (get_or row k absent ≡ absent → ⊥) → get_or row k absent < length (records_in b)
-in_book b row w k l = place_there b.commands.now b.paths.text.now b.paths.rows.now b.records row w k l
 
 built_flag : (dir base : Text) (id : ℕ) (o : Option Bool) → option_map (built_value dir base (flag id)) o ≡ o
 unfolding built_value

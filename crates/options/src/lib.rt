@@ -5,14 +5,14 @@ ghost use Rattle.std.specs.Prelude.{◌≡◌, ◌<◌, option_copied};
 ghost use Rattle.emit.specs.Emit.{Room};
 ghost use Rattle.emit.specs.Output.{Puts};
 ghost use Rattle.tsconfig.specs.Listing.{decimal};
-ghost use Rattle.rows.specs.Rows.{Row, site_of};
-ghost use Rattle.rows.specs.Checked.{records_in};
+ghost use Rattle.sites.specs.Sites.{settings_in};
 ghost use Rattle.options.specs.Options.{flag_value, text_value, option_line, options_part};
 
 use emit::Output;
 use lines::put_value;
 use record::Record;
-use rows::{CheckedBook, places};
+use rows::places;
+use sites::Config;
 
 // Writes an id in decimal.
 fn put_decimal(out: &mut Output, id: u8)
@@ -57,18 +57,17 @@ fn text_value<'a>(found: Option<Record<'a>>, id: u8) -> Option<&'a [u8]>
     found?.text_option(id)
 }
 
-// Writes the flags and the text options of a row's config.
-pub fn put_options(out: &mut Output, book: &CheckedBook, row: &[u8])
-    requires row { Row (records_in book.now) row.now }
-    requires room { Room out.old.at (options_part (site_of (records_in book.now) row.now).config) }
-    ensures { Puts (options_part (site_of (records_in book.now) row.now).config) out.old out.new }
+// Writes the flags and the text options of the config.
+pub fn put_options(out: &mut Output, config: &Config)
+    requires { Room out.old.at (options_part (settings_in config.now)) }
+    ensures { Puts (options_part (settings_in config.now)) out.old out.new }
 {
     for id in 0..11u8 {
-        let found = book.supplier(row, places::FLAGS + usize::from(id));
+        let found = config.supplier(places::FLAGS + usize::from(id));
         put_option(out, b"flag ", id, flag_value(found, id));
     }
     for id in 0..7u8 {
-        let found = book.supplier(row, places::TEXTS + usize::from(id));
+        let found = config.supplier(places::TEXTS + usize::from(id));
         put_option(out, b"text ", id, text_value(found, id));
     }
 }
