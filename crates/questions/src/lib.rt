@@ -17,7 +17,7 @@ use records::PathTable;
 use references::{Project, load_record};
 use replies::{Numbers, give, refuse};
 use rows::CheckedBook;
-use sites::site_base;
+use sites::{Built, Config};
 use strings::is_string;
 
 // What stands for no record.
@@ -87,9 +87,9 @@ fn build(commands: &[u8], text: &[u8], path: &[u8], out: &mut [u8]) -> Result<Nu
     let book = open_book(commands, text, &mut index)?;
     let Project { row, merges, .. } = load_asked(&book, is_asked_path(path), path)?;
     let mut buffer = [0u8; 1600];
-    let base = site_base(&book, &row, &mut buffer);
+    let built = Built::new(Config::new(&book, &row), &mut buffer);
     let mut scratch = [0u8; 4096];
-    Ok(write_listing(&book, &row, base, merges, &mut scratch, out))
+    Ok(write_listing(&built, merges, &mut scratch, out))
 }
 
 // B: the config that a path means, merged with what it extends and built, as lines; its record and the merges made.
@@ -114,9 +114,9 @@ fn paths(
     let book = open_book(commands, text, &mut index)?;
     let Project { row, .. } = load_asked(&book, is_asked(path, directory, specifier), path)?;
     let mut buffer = [0u8; 1600];
-    let base = site_base(&book, &row, &mut buffer);
+    let built = Built::new(Config::new(&book, &row), &mut buffer);
     let mut scratch = [0u8; 1024];
-    Ok(write_paths(directory, &book, &row, base, specifier, &mut scratch, out))
+    Ok(write_paths(directory, &built, specifier, &mut scratch, out))
 }
 
 // C: the paths that a specifier is mapped to by the config that a path means, each a length in two bytes and its bytes; how many there are.

@@ -23,4 +23,4 @@ pub returns : goal.returns
 returns c =
     let a = c.args in
     let accepted = build_accepted a.commands.now a.text.now a.path.now (length a.out.now) _ c.in_ok-book.ensures _ c.is_asked_path.ensures in
-    told_as _ _ _ _ _ (then_ready _ (records_in c.in_ok-book.book) _ _ accepted _ c.in_ok-row.ensures) c.write_listing.ensures
+    told_as _ _ _ _ _ (then_ready _ (records_in c.in_ok-book.book) _ _ accepted _ c.in_ok-row.ensures) (rw (c.new-built.ensures.book, c.new-built.ensures.row, c.new.ensures.book, c.new.ensures.row) at c.write_listing.ensures)

@@ -1,9 +1,13 @@
-use mathlib.Core.Path.{refl, sym, ◌∙◌}
+use mathlib.Core.Path.{refl, sym, ap, ◌∙◌}
 use native.Mathlib.Omega.{arith}
 use lib.ListN.{length}
 use Rattle.std.specs.Prelude.{option_copied}
 use Rattle.std.proofs.lemmas.Result.{err_from_is_err_and}
 use Rattle.replies.proofs.Replies.{told_as}
+use Rattle.replies.specs.Replies.{listed}
+use Rattle.paths_reply.specs.Paths.{paths_by}
+use Rattle.tsconfig.specs.Claims.{Site}
+use Rattle.sites.proofs.Laws.{site_is}
 use Rattle.rows.specs.Checked.{records_in}
 use Rattle.questions.proofs.Replies.{paths_refused, paths_accepted, then_refused, then_ready, ready_asked, specifier_short, directory_short}
 use Rattle.questions.proofs.paths.Goals as goal
@@ -26,13 +30,7 @@ write_paths-requires-clause-asks c =
     let a = c.args in
     let ready = c.in_ok-row.ensures in
     let asked = sym c.is_asked.ensures ∙ ready_asked _ (records_in c.in_ok-book.book) a.path.now _ ready in
-    record {
-      sound = ready.sound;
-      base_is = c.site_base-base.ensures.value;
-      base_short = c.site_base-base.ensures.short;
-      spec_short = specifier_short a.path.now a.specifier.now (option_copied a.directory) asked;
-      near = omega arith;
-    }
+    record { spec_short = specifier_short a.path.now a.specifier.now (option_copied a.directory) asked; near = omega arith }
 
 pub write_paths-requires-clause-directory : goal.write_paths-requires-clause-directory
 write_paths-requires-clause-directory c =
@@ -44,4 +42,9 @@ pub returns : goal.returns
 returns c =
     let a = c.args in
     let accepted = paths_accepted a.commands.now a.text.now a.path.now a.specifier.now (length a.out.now) (option_copied a.directory) _ c.in_ok-book.ensures _ c.is_asked.ensures in
-    told_as _ _ _ _ _ (then_ready _ (records_in c.in_ok-book.book) _ _ accepted _ c.in_ok-row.ensures) c.write_paths.ensures
+    let b = c.new-built in
+    let same = site_is b.result.config _ _ (b.ensures.book ∙ c.new.ensures.book) (b.ensures.row ∙ c.new.ensures.row) in
+    told_as _ _ _ _ _
+    (then_ready _ (records_in c.in_ok-book.book) _ _ accepted _ c.in_ok-row.ensures
+    ∙ sym (ap (λ (s : Site). listed (length a.out.now) (paths_by (option_copied a.directory) a.specifier.now s.config)) same))
+    c.write_paths.ensures
