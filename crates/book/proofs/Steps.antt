@@ -16,7 +16,18 @@ use Rattle.text.specs.Bytes.{Text}
 use Rattle.book.specs.declared.Cmd.{Cmd}
 use Rattle.book.specs.declared.Stop.{Stop}
 use Rattle.std.specs.Prelude.{Option, Some, None, Result, Ok, Err}
+use Rattle.std.specs.Option.{ok_or}
 use Rattle.book.specs.declared.Stop.TheVariants.{Broken, End}
+
+-- what `ok_or` answers, which is handed on by `?`
+module _ {A E : Type 0} (f : E) (r : Result A E) where
+  pub ok_told : (o : Option A) {x : A} → r ≡ ok_or o f → r ≡ Ok x → o ≡ Some x
+  ok_told None {x} a b = absurd (let z : ◌≡◌ {A = Result A E} (Err f) (Ok x) = sym a ∙ b in let q : ⊥ = cc in q)
+  ok_told (Some y) {x} a b = let z : ◌≡◌ {A = Result A E} (Ok y) (Ok x) = sym a ∙ b in let q : y ≡ x = cc in ap Some q
+
+  pub err_told : (o : Option A) {e : E} → r ≡ ok_or o f → r ≡ Err e → (o ≡ None) × (e ≡ f)
+  err_told None {e} a b = let z : ◌≡◌ {A = Result A E} (Err f) (Err e) = sym a ∙ b in let q : f ≡ e = cc in (refl, sym q)
+  err_told (Some y) {e} a b = absurd (let z : ◌≡◌ {A = Result A E} (Ok y) (Err e) = sym a ∙ b in let q : ⊥ = cc in q)
 
 -- a width that is told
 pub width_some : (w : ℕ) {v : ℕ} → width_told w ≡ Some v → (v ≡ w) × (v ≡ 9 → ⊥)

@@ -13,7 +13,7 @@ unfoldable pub find : Text → List Text → Option ℕ
 find p [] = None
 find p (q ∷ qs) = cond (same_text p q) (Some 0) (option_map suc (find p qs))
 
--- "A directory is a proper ancestor of a record's path." The empty path is None, as in the crate's file system; no answer hangs on it.
+-- "A directory is a proper ancestor of a record's path." The empty path is none, as in the crate's file system; no answer hangs on it.
 unfoldable pub is_dir : List Text → Text → Bool
 is_dir paths p = starts slash p && some_of (prefix_of (push_of p [])) paths
 

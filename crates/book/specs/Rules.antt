@@ -10,12 +10,12 @@ use Rattle.path_rules.specs.Paths.{record_path, lead_rule}
 use Rattle.patterns.specs.Patterns.{pattern_rule}
 use Rattle.compare.specs.Compare.{covers}
 
--- What stands before a command: the records that are closed, and the commands of the open one, None if None is open. Newest first.
+-- What stands before a command: the records that are closed, and the commands of the open one, none if none is open. Newest first.
 pub record Before : Type 0 where
   pub records : List (List Cmd)
   pub here : List Cmd
 
--- "BEGIN S (path)", "S is start and length": a command's string, empty where it has None
+-- "BEGIN S (path)", "S is start and length": a command's string, empty where it has none
 unfoldable pub text_of : Text → Cmd → Text
 text_of text c = take c.len (drop c.start text)
 

@@ -59,15 +59,15 @@ const SPAN: usize = 4;
 pub const STRIDE: usize = 5;
 
 // What a command counts as, its slot, is its byte, but each flag id and each text id counts by itself: the slots that are looked at by name, and the first of the flags.
-pub const BEGIN_SLOT: usize = 1;
+pub const BEGIN_SLOT: usize = BEGIN as usize;
 
-pub const PATHS_SLOT: usize = 10;
+pub const PATHS_SLOT: usize = PATHS as usize;
 
-pub const KEY_SLOT: usize = 11;
+pub const KEY_SLOT: usize = KEY as usize;
 
-pub const TARGET_SLOT: usize = 12;
+pub const TARGET_SLOT: usize = TARGET as usize;
 
-pub const END_SLOT: usize = 20;
+pub const END_SLOT: usize = END as usize;
 
 pub const FLAG_SLOTS: usize = 21;
 
@@ -75,6 +75,9 @@ pub const FLAG_SLOTS: usize = 21;
 pub const TEXT_SLOTS: usize = 32;
 
 pub const SLOTS: usize = 39;
+
+// The most records that a book has.
+pub const MOST_RECORDS: usize = 64;
 
 // The last id of a flag, and that of a text option.
 pub const LAST_FLAG: u8 = 10;
@@ -200,9 +203,7 @@ pub fn command_at(commands: &[u8], at: usize) -> Result<(Cmd, usize), Stop>
         }
         return Ok((read_span(from(commands, at)), at + SPAN + 1));
     }
-    let Some(w) = width(op) else {
-        return Err(Stop::Broken);
-    };
+    let w = width(op).ok_or(Stop::Broken)?;
     if commands.len() - at <= w {
         return Err(Stop::Broken);
     }
@@ -226,53 +227,39 @@ pub fn string_of(text: &[u8], c: Cmd) -> &[u8]
 // Why a book, a question or a load is refused, by the refusals' numbers.
 #[derive(Clone, Copy, PartialEq, Eq)]
 pub enum Fault {
-    // 1: a slice is over its size.
-    TooLarge,
-    // 2: an unknown byte, operands cut short, or a record left open.
-    Broken,
-    // 3: out of order, repeated, or an id or value out of range.
-    OutOfOrder,
-    // 4: a string breaks its rule or leaves the text.
-    BadString,
-    // 5: one too many.
-    TooMany,
-    // 6: a path or a key given before, or a path that is an ancestor of another's.
-    GivenBefore,
-    // 7: what is asked about breaks its rule.
-    BadQuestion,
-    // 8: no such config.
-    NotFound,
-    // 9: a config met again on its own chain.
-    Circular,
-    // 10: a config references itself.
-    RefersToItself,
-    // 11: an empty extends entry.
-    EmptyEntry,
-    // 12: an extends entry starts with neither `/` nor `.`
-    BareEntry,
-    // 13: the answer is longer than the output.
-    NoRoom,
+    // A slice is over its size.
+    TooLarge = 1,
+    // An unknown byte, operands cut short, or a record left open.
+    Broken = 2,
+    // Out of order, repeated, or an id or value out of range.
+    OutOfOrder = 3,
+    // A string breaks its rule or leaves the text.
+    BadString = 4,
+    // One too many.
+    TooMany = 5,
+    // A path or a key given before, or a path that is an ancestor of another's.
+    GivenBefore = 6,
+    // What is asked about breaks its rule.
+    BadQuestion = 7,
+    // No such config.
+    NotFound = 8,
+    // A config met again on its own chain.
+    Circular = 9,
+    // A config references itself.
+    RefersToItself = 10,
+    // An empty extends entry.
+    EmptyEntry = 11,
+    // An extends entry starts with neither `/` nor `.`
+    BareEntry = 12,
+    // The answer is longer than the output.
+    NoRoom = 13,
 }
 
 impl Fault {
     pub fn number(self) -> u32
         ensures { result ≡ number_of self }
     {
-        match self {
-            Fault::TooLarge => 1,
-            Fault::Broken => 2,
-            Fault::OutOfOrder => 3,
-            Fault::BadString => 4,
-            Fault::TooMany => 5,
-            Fault::GivenBefore => 6,
-            Fault::BadQuestion => 7,
-            Fault::NotFound => 8,
-            Fault::Circular => 9,
-            Fault::RefersToItself => 10,
-            Fault::EmptyEntry => 11,
-            Fault::BareEntry => 12,
-            Fault::NoRoom => 13,
-        }
+        self as u32
     }
 }
 
