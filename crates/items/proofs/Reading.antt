@@ -1,6 +1,6 @@
 -- The items of a record, one after the other: what a search for the next one says of the record's commands. Assumes nothing.
 use mathlib.Core.Path.{◌≡◌, refl, sym, ap, ap₂, subst, ◌∙◌}
-use mathlib.Core.List.{List, [], ◌∷◌, ◌++◌}
+use mathlib.Core.List.{List, [], ◌∷◌, ◌++◌, map}
 use mathlib.Core.Bool.{Bool, true, false, cond, true≢false}
 use Rattle.std.specs.Prelude.{Some, None, unwrap_or, is_some}
 use Prim.Native.Nat.{ℕ, zero, suc, ◌+◌, ◌-◌, ◌≤◌, ◌<◌}
@@ -22,11 +22,11 @@ use Rattle.book.specs.Index.{up_to_end, record_at}
 use Rattle.book.specs.Steps.{step_at}
 use Rattle.book.proofs.Steps.{decoded, decode_step, Moved, step_moves}
 use Rattle.std.specs.Prelude.{Option}
+use Rattle.std.specs.List.{find}
 use Rattle.std.proofs.Common.{Bor}
-use Rattle.items.specs.declared.Items.{Items}
 use Rattle.items.specs.declared.Targets.{Targets}
-use Rattle.items.specs.Runs.{NextItem, NextTarget, behind}
-use Rattle.items.specs.Items.{offset_of, item_to, item_by, item_of, option_item, target_item}
+use Rattle.items.specs.Runs.{NextTarget, behind}
+use Rattle.items.specs.Items.{offset_of, paired, item_to, item_by, item_of, option_item, target_item}
 
 -- What is decoded, step by step
 
@@ -110,6 +110,42 @@ module _ (stop ok : Cmd → Bool) (s : Text) (at : ℕ) (r : Result (Cmd × ℕ)
       unfolding item_to
       item_on g = rw (read_command s at r told e, f, g) refl
 
+-- The commands before the END, in turn
+
+module _ (s : Text) (at : ℕ) (r : Result (Cmd × ℕ) Stop) (told : r ≡ step_at s at) where
+  pub paired_over : {w : Stop} → r ≡ Err w → paired (read_from s at) ≡ []
+  unfolding paired
+  paired_over {w} e = over w e
+    where
+      over : (w : Stop) → r ≡ Err w → paired (read_from s at) ≡ []
+      over End e = rw (read_end s at r told e) refl
+      over Broken e = rw (read_broken s at r told e) refl
+
+  module _ {c : Cmd} {n : ℕ} (e : r ≡ Ok (c, n)) where
+    pub paired_stop : eqb c.op end ≡ true → paired (read_from s at) ≡ []
+    unfolding paired
+    paired_stop t = rw (read_command s at r told e, t) refl
+
+    pub paired_on : eqb c.op end ≡ false → paired (read_from s at) ≡ (c, n) ∷ paired (read_from s n)
+    unfolding paired
+    paired_on f = rw (read_command s at r told e, f) (ap (λ (k : ℕ). (c, k) ∷ paired (read_from s n)) (offset_read s n))
+
+-- the first of them of which ok holds
+pub found_first : (ok : Cmd → Bool) (d : Decoded) → find (λ p. ok p.0) (paired d) ≡ item_by ok d
+unfolding paired item_to
+found_first ok (ended at) = refl
+found_first ok (broken at) = refl
+found_first ok (command at c d) =
+    by_test (eqb c.op end) (λ t. rw t refl)
+    (λ f. by_test (ok c) (λ y. rw (f, y) refl) (λ g. rw (f, g) (found_first ok d)))
+
+-- they are the record's commands
+pub paired_all : (d : Decoded) → map (λ p. p.0) (paired d) ≡ up_to_end d
+unfolding paired up_to_end
+paired_all (ended at) = refl
+paired_all (broken at) = refl
+paired_all (command at c d) = by_test (eqb c.op end) (λ t. rw t refl) (λ f. rw f (ap (λ (r : List Cmd). c ∷ r) (paired_all d)))
+
 -- What the next item says of the record
 
 -- c is the first of the record's commands from `at` on of which ok holds, and next is the offset after it
@@ -170,7 +206,7 @@ module _ (ok : Cmd → Bool) where
         record { forth = omega (arith, l, h.forth); within = h.within; holds = h.holds; passed = k ∷ h.passed; others = none_more k h.passed g h.others; reads = rw f (ap (λ (x : List Cmd). k ∷ x) h.reads) }))
 
     module _ (at : ℕ) where
-      -- there is None
+      -- there is none
       pub missing : None ≡ item_by ok (read_from s at) → some_of ok (record_at s at) ≡ false
       unfolding record_at
       missing e = missing_of (read_from s at) e
@@ -353,48 +389,6 @@ module _ (text : Text) where
     unfolding targets_of
     targets_got c next e = let g = aimed s at c next e in ap (targets_of text) g.reads ∙ rw g.holds refl
 
--- The loop over the items with a byte, for one with the id
-
-module _ (op id : ℕ) where
-  option_none : (d : Decoded) → None ≡ item_of op d → None ≡ option_item op id d
-  unfolding item_to
-  option_none (ended at) e = refl
-  option_none (broken at) e = refl
-  option_none (command at c d) e =
-      by_test (eqb c.op end) (λ t. rw t refl)
-      (λ f. by_test (is op c) (λ y. no_item (sym (rw (f, y) at e))) (λ g. rw (f, g) (option_none d (rw (f, g) at e))))
-
-  module _ (s : Text) where
-    option_command : (at : ℕ) (k : Cmd) (n : ℕ) → at < n → n ≤ length s → ((c : Cmd) (next : ℕ) → Some (c, next) ≡ item_of op (read_from s n) → option_item op id (read_from s n) ≡ cond (eqb c.id id) (Some (c, next)) (option_item op id (read_from s next))) → (c : Cmd) (next : ℕ) → Some (c, next) ≡ item_of op (command at k (read_from s n)) → option_item op id (command at k (read_from s n)) ≡ cond (eqb c.id id) (Some (c, next)) (option_item op id (read_from s next))
-    unfolding item_to
-    option_command at k n l w ih c next e =
-        by_test (eqb k.op end) (λ t. no_item (rw t at e))
-        (λ f. by_test (is op k)
-        (λ y.
-        let g : ◌≡◌ {A = Option (Cmd × ℕ)} (Some (c, next)) (Some (k, offset_of (read_from s n))) = rw (f, y) at e in
-        let a : c ≡ k = one_command g in
-        let b : next ≡ n = one_offset g ∙ offset_read s n in
-        (rw (f, y, offset_read s n) refl) ∙ ap₂ (λ (x : Cmd) (m : ℕ). cond (eqb x.id id) (Some (x, m)) (option_item op id (read_from s m))) (sym a) (sym b))
-        (λ g. (rw (f, g) refl) ∙ ih c next (rw (f, g) at e)))
-
-    option_of_lem : (at : ℕ) (c : Cmd) (next : ℕ) → Some (c, next) ≡ item_of op (read_from s at) → option_item op id (read_from s at) ≡ cond (eqb c.id id) (Some (c, next)) (option_item op id (read_from s next))
-    unfolding item_to
-    option_of_lem = by_reading s (λ a d. (c : Cmd) (next : ℕ) → Some (c, next) ≡ item_of op d → option_item op id d ≡ cond (eqb c.id id) (Some (c, next)) (option_item op id (read_from s next))) (λ a c n x. no_item x) (λ a c n x. no_item x) option_command
-
-    module _ (at : ℕ) (r : Option (Cmd × ℕ)) (i : r ≡ item_of op (read_from s at)) where
-      pub option_end : r ≡ None → None ≡ option_item op id (read_from s at)
-      option_end e = option_none (read_from s at) (sym e ∙ i)
-
-      module _ {c : Cmd} {next : ℕ} (e : r ≡ Some (c, next)) where
-        pub option_here : c.id ≡ id → Some (c, next) ≡ option_item op id (read_from s at)
-        option_here y = sym (option_of_lem at c next (sym e ∙ i) ∙ rw (eq-eqb c.id id y) refl)
-
-        pub option_on : (c.id ≡ id → ⊥) → option_item op id (read_from s at) ≡ option_item op id (read_from s next)
-        option_on y = option_of_lem at c next (sym e ∙ i) ∙ rw (ne_eqb c.id id y) refl
-
-        pub option_less : length s - next < length s - at
-        option_less = let g = got (is op) s at c next (sym e ∙ i) in omega (arith, g.forth, g.within)
-
 -- Whether there is one
 
 pub named_as_some : (op : ℕ) (s : Text) (at : ℕ) (r : Option (Cmd × ℕ)) → r ≡ item_of op (read_from s at) → is_some r ≡ some_of (is op) (record_at s at)
@@ -403,37 +397,11 @@ named_as_some op s at (Some (c, next)) i = sym (some_got (is op) s at c next i)
 
 -- Each search goes on behind what it found
 
-pub item_less : (op : ℕ) (s : Text) (at : ℕ) (r : Option (Cmd × ℕ)) → r ≡ item_of op (read_from s at) → (p : Cmd × ℕ) → r ≡ Some p → length s - p.1 < length s - at
-item_less op s at r i (c, next) e = let g = got (is op) s at c next (sym e ∙ i) in omega (arith, g.forth, g.within)
-
 pub target_less : (s : Text) (at : ℕ) (r : Option (Cmd × ℕ)) → r ≡ target_item (read_from s at) → (p : Cmd × ℕ) → r ≡ Some p → length s - p.1 < length s - at
 target_less s at r i (c, next) e = let g = aimed s at c next (sym e ∙ i) in omega (arith, g.forth, g.within)
 
--- The loops over the iterators: which commands they go over, and what a call of `next` found
+-- The loop over targets, whose commands are these
 
-pub record Over (s : Text) (op : ℕ) (it : Items) : Type 0 where
-  pub commands : it.commands.now ≡ s
-  pub byte : it.op ≡ op
-
-pub starts_over : {it : Items} {commands : Bor Text} {at op : ℕ} → it ≡ record { commands = commands; at = at; op = op } → Over commands.now op it
-starts_over e = record { commands = ap (λ (i : Items). i.commands.now) e; byte = ap (λ (i : Items). i.op) e }
-
-module _ {s : Text} {op : ℕ} {it : Items} (o : Over s op it) {r : Option (Cmd × ℕ)} {t : Items} (n : NextItem it r t) where
-  -- what it found
-  pub found : r ≡ item_of op (read_from s it.at)
-  found = rw (← o.byte, ← o.commands) n.item
-
-  module _ {c : Cmd} {next : ℕ} (e : r ≡ Some (c, next)) where
-    moved : t ≡ record it { at = next }
-    moved = n.rest ∙ ap (λ (q : Option (Cmd × ℕ)). record it { at = behind it.at q }) e
-
-    pub over_on : Over s op t
-    over_on = record { commands = ap (λ (i : Items). i.commands.now) moved ∙ o.commands; byte = ap (λ (i : Items). i.op) moved ∙ o.byte }
-
-    pub at_on : t.at ≡ next
-    at_on = ap (λ (i : Items). i.at) moved
-
--- the same of targets, whose commands are these
 module _ {s : Text} {it : Targets} (o : it.commands.now ≡ s) {r : Option (Cmd × ℕ)} {t : Targets} (n : NextTarget it r t) where
   pub aimed_at : r ≡ target_item (read_from s it.at)
   aimed_at = rw (← o) n.item

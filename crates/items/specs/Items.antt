@@ -1,5 +1,5 @@
 -- What is read of a checked book: the next item of a record.
-use Rattle.std.specs.Prelude.{ℕ, Bool, not, cond}
+use Rattle.std.specs.Prelude.{ℕ, List, [], ◌∷◌, Bool, not, cond}
 use Rattle.book.specs.declared.Cmd.{Cmd}
 use Rattle.book.specs.Command.{Decoded, ended, broken, command, target, end}
 use Rattle.book.specs.Record.{is, is_id}
@@ -10,6 +10,12 @@ unfoldable pub offset_of : Decoded → ℕ
 offset_of (ended at) = at
 offset_of (broken at) = at
 offset_of (command at c rest) = at
+
+-- the commands before the record's END, each with the offset after it
+unfoldable pub paired : Decoded → List (Cmd × ℕ)
+paired (ended at) = []
+paired (broken at) = []
+paired (command at c rest) = cond (is end c) [] ((c, offset_of rest) ∷ paired rest)
 
 -- the first command of which ok holds, before one that stops, with the offset after it
 unfoldable pub item_to : (Cmd → Bool) → (Cmd → Bool) → Decoded → Option (Cmd × ℕ)

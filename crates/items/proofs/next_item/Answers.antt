@@ -1,22 +1,18 @@
-use Rattle.std.proofs.Common.{refl, sym, ◌∙◌}
-use borrow.Author.Tests.{eq-eqb, ne_eqb}
-use Rattle.items.proofs.Reading.{item_over, item_stop, item_here, item_on, read_less}
+use Rattle.std.proofs.Common.{ℕ, refl, ◌∙◌, sym, rules, tests}
+use Rattle.std.proofs.lemmas.Iterator.Search.{find_from_yields_List}
+use Rattle.std.proofs.lemmas.Iterator.Consumers.{YieldsList-from_first}
+use Rattle.std.proofs.lemmas.Iterator.Adapters.{option_map_id}
+use Rattle.book.specs.declared.Cmd.{Cmd}
+use Rattle.book.specs.Record.{is}
+use Rattle.items.specs.declared.Commands.{Commands}
+use Rattle.items.specs.Runs.{commands_left}
+use Rattle.items.proofs.Reading.{read_from, found_first}
 use Rattle.items.proofs.next_item.Goals as goal
 
-pub loop-c-init : goal.loop-c-init
-loop-c-init c = refl
-
-pub returns-then-c-eq-END : goal.returns-then-c-eq-END
-returns-then-c-eq-END c = item_stop _ _ _ _ _ c.command_at.ensures c.in-Ok.is (eq-eqb _ _ c.if-c-eq-END.true) ∙ c.loop-c.invariant
-
-pub returns-then-c-op : goal.returns-then-c-op
-returns-then-c-op c = item_here _ _ _ _ _ c.command_at.ensures c.in-Ok.is (ne_eqb _ _ c.if-c-eq-END.false) (eq-eqb _ _ c.if-c-op.true) ∙ c.loop-c.invariant
-
-pub loop-c-smaller : goal.loop-c-smaller
-loop-c-smaller c = read_less _ _ _ c.command_at.ensures c.in-Ok.is
-
-pub loop-c-preserved : goal.loop-c-preserved
-loop-c-preserved c = sym (item_on _ _ _ _ _ c.command_at.ensures c.in-Ok.is (ne_eqb _ _ c.if-c-eq-END.false) (ne_eqb _ _ c.if-c-op.false)) ∙ c.loop-c.invariant
-
 pub returns : goal.returns
-returns c = item_over _ _ _ _ _ c.command_at.ensures c.in_default.is ∙ c.loop-c.invariant
+returns c =
+    let a = c.args in
+    let it : Commands = record { commands = a.commands; at = a.at } in
+    sym (option_map_id _)
+    ∙ find_from_yields_List (λ (p : Cmd × ℕ). is a.op p.0) c.find.new.self _ c.find.result c.find.ensures.ran (YieldsList-from_first (λ x. x) commands_left (commands_left it) refl) (λ x b q k. search (rules, tests))
+    ∙ found_first (is a.op) (read_from a.commands.now a.at)

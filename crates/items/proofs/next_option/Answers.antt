@@ -1,28 +1,18 @@
-use Rattle.std.proofs.Common.{sym, ap, ◌∙◌}
-use Rattle.items.specs.declared.Items.{Items}
-use Rattle.items.specs.Items.{option_item}
-use Rattle.items.proofs.Reading.{read_from, option_end, option_here, option_on, starts_over, found, over_on, at_on}
+use Rattle.std.proofs.Common.{ℕ, refl, ◌∙◌, sym, rules, tests}
+use Rattle.std.proofs.lemmas.Iterator.Search.{find_from_yields_List}
+use Rattle.std.proofs.lemmas.Iterator.Consumers.{YieldsList-from_first}
+use Rattle.std.proofs.lemmas.Iterator.Adapters.{option_map_id}
+use Rattle.book.specs.declared.Cmd.{Cmd}
+use Rattle.book.specs.Record.{is_id}
+use Rattle.items.specs.declared.Commands.{Commands}
+use Rattle.items.specs.Runs.{commands_left}
+use Rattle.items.proofs.Reading.{read_from, found_first}
 use Rattle.items.proofs.next_option.Goals as goal
-
-pub loop-c-init : goal.loop-c-init
-loop-c-init c =
-    let begun = c.into_iter-c-iterator.ensures.into_iter_gives in
-    record { over = starts_over begun; left = ap (λ (it : Items). option_item c.args.op c.args.id (read_from c.args.commands.now it.at)) begun }
-
-pub returns-then-c-id : goal.returns-then-c-id
-returns-then-c-id c =
-    let i = c.loop-c.invariant in
-    option_here _ _ _ _ _ (found i.over c.next.ensures.steps) c.in-Some.is c.if-c-id.true ∙ i.left
-
-pub loop-c-preserved : goal.loop-c-preserved
-loop-c-preserved c =
-    let i = c.loop-c.invariant in
-    record {
-      over = over_on i.over c.next.ensures.steps c.in-Some.is;
-      left = rw (at_on i.over c.next.ensures.steps c.in-Some.is) (sym (option_on _ _ _ _ _ (found i.over c.next.ensures.steps) c.in-Some.is c.if-c-id.false) ∙ i.left);
-    }
 
 pub returns : goal.returns
 returns c =
-    let i = c.loop-c.invariant in
-    option_end _ _ _ _ _ (found i.over c.next.ensures.steps) c.in-None.is ∙ i.left
+    let a = c.args in
+    let it : Commands = record { commands = a.commands; at = a.at } in
+    sym (option_map_id _)
+    ∙ find_from_yields_List (λ (p : Cmd × ℕ). is_id a.op a.id p.0) c.find.new.self _ c.find.result c.find.ensures.ran (YieldsList-from_first (λ x. x) commands_left (commands_left it) refl) (λ x b q k. search (rules, tests))
+    ∙ found_first (is_id a.op a.id) (read_from a.commands.now a.at)
