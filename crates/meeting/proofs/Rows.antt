@@ -1,8 +1,8 @@
 -- Two strings that meet, and the rows that one is held against. Assumes nothing.
 use mathlib.Core.Path.{◌≡◌, refl, sym, ap, ap₂, ◌∙◌}
 use mathlib.Core.List.{List, [], ◌∷◌, ◌++◌, map, reverse, reverse-cons}
-use mathlib.Core.Bool.{Bool, true, false, ◌&&◌, ◌||◌, cond, or-false, or_assoc, true≢false}
-use Prim.Native.Nat.{ℕ, ◌<◌}
+use mathlib.Core.Bool.{Bool, true, false, ◌&&◌, ◌||◌, cond, and-false, or-false, or_assoc, true≢false}
+use Prim.Native.Nat.{ℕ, ◌≤◌, ◌<◌}
 use native.Mathlib.Omega.{arith}
 use lib.ListN.{length, get_or, length-drop}
 use lib.Seq.{length-take-le}
@@ -12,13 +12,14 @@ use Rattle.text.specs.Bytes.{Text}
 use Rattle.text.specs.Text.{prefix_of, same_text, some_of}
 use Rattle.compare.specs.Compare.{covers}
 use Rattle.compare.specs.Compare.{digest_of}
-use Rattle.text.proofs.Scans.{same_length, some_as_std}
+use Rattle.text.proofs.Scans.{same_length, same_as_std, some_as_std}
 use Rattle.compare.proofs.Ways.{over_short}
 use Rattle.text.proofs.Picks.{by_test}
 use Rattle.book.specs.Rules.{clash}
 use Rattle.book.specs.State.{string_at, texts, meets, IsSeen, AllSeen}
 use Rattle.book.specs.declared.Seen.{Seen}
 use Rattle.std.specs.List.{All, list_any}
+use Rattle.std.specs.Cmp.Lexicographic.{pointwise}
 use Rattle.std.proofs.lemmas.List.Elements.{All-head, All-tail}
 
 some_append : {A : Type 0} (P : A → Bool) (k l : List A) → some_of P (k ++ l) ≡ some_of P k || some_of P l
@@ -105,6 +106,12 @@ pub meet_not : (paths : Bool) (a b : Text) → paths ≡ false → (length a ≡
 unfolding meets
 meet_not paths a b f h = rw (f, same_length a b h)
 
+pub meet_rest : (a b : Text) (r : Bool) → length b ≤ length a → r ≡ covers b a → r ≡ meets true a b
+meet_rest a b r h k =
+    by_test (eqb (length a) (length b))
+    (λ y. meet_same true a b r (eqb-true (length a) (length b) y) k)
+    (λ y. meet_long true a b r refl (omega (arith, h, eqb-false (length a) (length b) y)) k)
+
 -- Two strings that cannot meet
 
 pub same_whole : (a b : Text) → same_text a b ≡ true → a ≡ b
@@ -144,6 +151,23 @@ row_is paths text s mark m r h =
     by_test (cond (eqb (length s) r.len) (eqb mark r.mark) paths)
     (λ y. rw y refl)
     (λ y. rw y (sym (meet_never paths s (string_at text r) (rw (size, ← h.marked, ← m) y))))
+
+-- what the code tests of a key's row
+abbrev pub key_met : Text → Text → ℕ → Seen → Bool
+key_met text s mark r = eqb r.mark mark && pointwise eqb s (string_at text r)
+
+key_is : (text s : Text) (mark : ℕ) → mark ≡ digest_of s → (r : Seen) → IsSeen text r → key_met text s mark r ≡ meets false s (string_at text r)
+unfolding meets
+key_is text s mark m r i =
+    let e : pointwise eqb s (string_at text r) ≡ same_text s (string_at text r) = same_as_std (pointwise eqb s (string_at text r)) s (string_at text r) refl in
+    by_test (same_text s (string_at text r))
+    (λ y. rw (e, y, eq-eqb r.mark mark (i.marked ∙ sym (m ∙ ap digest_of (same_whole s (string_at text r) y)))) refl)
+    (λ f. rw (e, f) (and-false (eqb r.mark mark)))
+
+pub keys_met : (text s : Text) (mark : ℕ) → mark ≡ digest_of s → (rows : List Seen) → AllSeen text rows → list_any (key_met text s mark) (reverse rows) ≡ some_of (meets false s) (texts text rows)
+keys_met text s mark m rows h =
+    some_as_std (key_met text s mark) (reverse rows) ∙ some_reverse (key_met text s mark) rows
+    ∙ rows_same text (meets false s) (key_met text s mark) rows (λ k d l. key_is text s mark m (get_or rows k d) (h k d l))
 
 pub rows_met :
     (paths : Bool) (text s : Text) (mark : ℕ) → mark ≡ digest_of s → (rows : List Seen) → AllSeen text rows →

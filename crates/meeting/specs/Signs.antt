@@ -24,8 +24,8 @@ pub record Noted (digests lengths slashes : List ℕ) (s : Text) (mark : ℕ) (d
   pub end : length s < 513 → get_or lengths' (length s) 0 ≡ 0 → ⊥
   pub cuts : (j : ℕ) → j < 513 → get_or s j 0 ≡ slash → get_or slashes' j 0 ≡ 0 → ⊥
 
--- s is no path that was noted, lies under none, and none lies under it: none has its digest, none is as long as what stands before one of its slashes, and none has a slash right
--- behind its length
+-- s is no path that was noted, lies under none, and none lies under it: none has its digest, none is as long as what stands before one of its
+-- slashes, and none has a slash right behind its length
 pub record Apart (digests lengths slashes : List ℕ) (s : Text) (mark : ℕ) : Type 0 where
   pub short : length s < 513
   pub unmarked : get_or digests mark 0 ≡ 0

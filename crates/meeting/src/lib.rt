@@ -14,39 +14,37 @@ use std::marker::Model;
 use strings::LONGEST;
 use text::{SLASH, upto};
 
-// Whether two strings meet. `paths` is a part of what is asked, as in the definition, and not a choice of steps: as paths, one the other or its ancestor; as keys, the same. Only the shorter can cover the longer, and of two of one length either.
-fn do_meet(paths: bool, a: &[u8], b: &[u8]) -> bool
-    ensures { result ≡ meets paths a.now b.now }
+// Whether two paths meet: one is the other or its ancestor. Only the shorter can cover the longer, and of two of one length either.
+fn do_meet(a: &[u8], b: &[u8]) -> bool
+    ensures { result ≡ meets true a.now b.now }
 {
-    if a.len() == b.len() {
-        covers(b, a)
-    } else if a.len() < b.len() {
-        paths && covers(a, b)
+    if a.len() < b.len() {
+        covers(a, b)
     } else {
-        paths && covers(b, a)
+        covers(b, a)
     }
 }
 
-// Whether two strings may meet, by their lengths and digests: of two of one length, only where the digests are the same.
-fn may_meet(paths: bool, size: usize, len: usize, mark: u8, other: u8) -> bool
-    ensures { result ≡ cond (eqb size len) (eqb mark other) paths }
+// Whether two paths may meet, by their lengths and digests: of two of one length, only where the digests are the same.
+fn may_meet(size: usize, len: usize, mark: u8, other: u8) -> bool
+    ensures { result ≡ cond (eqb size len) (eqb mark other) true }
 {
-    if size == len { mark == other } else { paths }
+    size != len || mark == other
 }
 
-// Whether one of the rows' strings meets s, whose digest is given. The last row is looked at first.
-pub fn is_met(paths: bool, text: &[u8], rows: &[Seen], s: &[u8], mark: u8) -> bool
+// Whether one of the rows' paths meets s, whose digest is given. The last row is looked at first.
+pub fn is_met(text: &[u8], rows: &[Seen], s: &[u8], mark: u8) -> bool
     requires seen { AllSeen text.now rows.now }
     requires mark_value { mark ≡ digest_of s.now }
-    ensures { result ≡ some_of (meets paths s.now) (texts text.now rows.now) }
+    ensures { result ≡ some_of (meets true s.now) (texts text.now rows.now) }
 {
     rows.iter().rev().any(|row| {
-        may_meet(paths, s.len(), row.len, mark, row.mark)
-            && do_meet(paths, s, piece(text, row.start, row.len))
+        may_meet(s.len(), row.len, mark, row.mark) && do_meet(s, piece(text, row.start, row.len))
     })
 }
 
-// The keys of a record that were seen, 32 at most. The marks stand also by themselves, where one look tells that a digest is none of them: without that a check at the limits takes 7 in 100 more instructions.
+// The keys of a record that were seen, 32 at most. No ArrayVec: the crates stand over std alone.
+// The marks stand also by themselves, where one look tells that a digest is none of them: without that a check at the limits takes 7 in 100 more instructions.
 #[derive(Drop)]
 pub struct Keys {
     rows: [Seen; 32],
@@ -97,7 +95,9 @@ impl Keys {
         requires mark_value { mark ≡ digest_of s.now }
         ensures { result ≡ some_of (meets false s.now) (texts text.now self.now) }
     {
-        self.marks.contains(&mark) && is_met(false, text, &self.rows[..self.len], s, mark)
+        self.marks.contains(&mark)
+            && self.rows[..self.len].iter().rev().any(|row| row.mark == mark
+                && s == piece(text, row.start, row.len))
     }
 }
 
@@ -130,7 +130,8 @@ fn note_slashes(lengths: &[u8; 513], slashes: &mut [u8; 513], s: &[u8]) -> bool
     met == 0
 }
 
-// What is noted of the paths before: the digest and the length of each, and the places of its slashes.
+// What is noted of the paths before: the digest and the length of each, and the places of its slashes. The check does not use it yet, and looks at each path before
+// (DECISIONS 58).
 #[derive(Drop)]
 pub struct Notes {
     pub digests: [u8; 256],
