@@ -5,7 +5,7 @@ use Prim.Native.Nat.{ℕ, suc, ◌+◌, ◌-◌, ◌≤◌, ◌<◌}
 use native.Mathlib.Omega.{arith}
 use native.Mathlib.Numerals.{add-one}
 use lib.ListN.{length, get_or, set, take, drop, length-set, length-reverse, length-map, length-drop, drop_of_length-le, get_or-append}
-use lib.Seq.{drop-drop, get_or_at, get_or-set_same, get_or-set_other, take-suc-set}
+use lib.Seq.{drop-drop, get_or_at, get_or-set_same, get_or-set_other}
 use lib.Dec.{eqb}
 use borrow.Author.Tests.{lt-ltb, le-ltb, eqb-true, eqb-false}
 use Rattle.text.specs.Bytes.{Text}

@@ -5,9 +5,9 @@ ghost use Rattle.std.specs.Prelude.{◌≡◌, true};
 ghost use Rattle.strings.specs.Scan.{tame_text};
 ghost use Rattle.book.specs.Index.{JudgedAs};
 
-use book::{Fault, IndexRow, Refusal, Seen, piece};
+use book::{Fault, IndexRow, MOST_RECORDS, Refusal, Seen, piece};
 use compare::digest;
-use faults::BookText;
+use faults::{Before, BookText};
 use meeting::Keys;
 use record_checker::check_record;
 use strings::is_tame;
@@ -16,8 +16,6 @@ use text::from;
 const MOST_COMMANDS: usize = 32768;
 
 const MOST_TEXT: usize = 65535;
-
-pub const MOST_RECORDS: usize = 64;
 
 // Whether the text is known to be tame. A text that is long beside the commands is not looked at as a whole.
 fn is_known_tame(commands: usize, text: &[u8]) -> bool
@@ -50,7 +48,11 @@ pub fn check_book(
     let mut n = 0;
     let mut at = 0;
     while at < commands.len() {
-        let c = check_record(&book, from(commands, at), at, &paths[..n], &mut keys)?;
+        let before = Before {
+            text: book,
+            paths: &paths[..n],
+        };
+        let c = check_record(&before, from(commands, at), at, &mut keys)?;
         index[n] = IndexRow {
             begin: at,
             start: c.start,

@@ -72,7 +72,7 @@ module _ (text : Text) (count : ℕ → ℕ) (last n : ℕ) (keys paths : List T
       (λ b. let y : Some 4 ≡ Some f = rw (a, b) at e in rw (a, b) y))
       (λ a. let y : Some 3 ≡ Some f = rw a at e in rw a y)
 
-  -- where it has None but for the keys, it has one where it is a key given before
+  -- where it has none but for the keys, it has one where it is a key given before
   pub fault_given : fault_of text count last n [] paths c ≡ None → fault_of text count last n keys paths c ≡ cond (cond (eqb c.op key) (some_of (meets false (text_of text c)) keys) false) (Some 6) None
   unfolding fault_of given_before some_of meets
   fault_given z =

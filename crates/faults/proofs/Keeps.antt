@@ -17,7 +17,7 @@ use Rattle.strings.proofs.Tame.{tame_part}
 use Rattle.book.specs.Command.{begin, key, target, flag, text_option}
 use Rattle.book.specs.Rules.{slot, in_range, tally, openers, limits, opened, fresh, follows, in_order, too_many, text_of, own_rule, good_string}
 use Rattle.book.specs.State.{has, pushed, Agrees, slotted, entry}
-use Rattle.std.specs.Prelude.{Option, Some, None}
+use Rattle.std.specs.Prelude.{Option, Some, None, MatchOption}
 use Rattle.book.proofs.Table.{at_each, T_true}
 use Rattle.text.proofs.Picks.{by_test}
 
@@ -109,6 +109,13 @@ module _ (count : ℕ → ℕ) (last : ℕ) (c : Cmd) (op : ℕ) (is : op ≡ c.
   pub many_on : (n m k : ℕ) → (op ≡ begin → ⊥) → m ≡ get_or limits op 0 → (m ≡ 0 → ⊥) → k ≡ slot c → leb m (count k) ≡ too_many count last c n
   unfolding too_many
   many_on n m k f e z s = rw (← s, ← is, ne_eqb _ _ f, ← e, ne_eqb _ _ z) refl
+
+  -- by the command's limit, if it has one: P is what is known of the answer where it has
+  pub many_by :
+      (n k : ℕ) → (op ≡ begin → ⊥) → k ≡ slot c → (o : Option ℕ) → o ≡ entry (get_or limits op 0) → (r : Bool) (P : ℕ → Type 0) → MatchOption o (r ≡ false) P → ((x : ℕ) → P x → r ≡ leb x (count k)) →
+      r ≡ too_many count last c n
+  many_by n k f s None e r P h y = h ∙ many_once n (get_or limits op 0) f refl (entry_none _ (sym e))
+  many_by n k f s (Some x) e r P h y = let z = entry_some _ (sym e) in y x h ∙ many_on n x k f z.0 z.1 s
 
   pub many_few : (n m k : ℕ) → (op ≡ begin → ⊥) → op < 21 → k ≡ slot c → m ≡ count k → m < 8 → false ≡ too_many count last c n
   unfolding too_many

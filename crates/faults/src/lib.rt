@@ -12,16 +12,14 @@ ghost use Rattle.text.specs.Text.{some_of};
 
 use book::{
     BEGIN, Cmd, EXCLUDE_ITEM, EXTENDS, FILE, FLAG, FLAG_SLOTS, Fault, INCLUDE_ITEM, KEY, LAST_FLAG,
-    LAST_TEXT, REFERENCE, ROOT_DIR, SLOTS, Seen, TARGET, TARGET_SLOT, TEXT_OPTION, TEXT_SLOTS,
-    string_of,
+    LAST_TEXT, MOST_RECORDS, REFERENCE, ROOT_DIR, SLOTS, Seen, TARGET, TARGET_SLOT, TEXT_OPTION,
+    TEXT_SLOTS, string_of,
 };
 use compare::digest;
 use meeting::is_met;
 use path_rules::{is_record_path_of, obeys_lead};
 use patterns::is_pattern_of;
 use strings::is_string_of;
-
-const MOST_RECORDS: usize = 64;
 
 // The least that a limit is.
 const FEWEST: u8 = 8;
@@ -35,13 +33,13 @@ pub struct BookText<'a> {
 }
 
 impl<'a> BookText<'a> {
-    // The rule of its own that a command's string has.
+    // Whether a command's string keeps the rule of its own that it has. Inlined, and `is_held` too, for `is_good` is.
     #[inline(always)]
-    fn own_rule(&self, op: u8, s: &[u8]) -> bool
-        requires { self.now.tame ≡ true → tame_text s.now ≡ true }
-        ensures { result ≡ own_rule op s.now }
+    fn own_rule(&self, c: Cmd) -> bool
+        ensures { result ≡ own_rule c.op (text_of self.now.bytes.now c) }
     {
-        match op {
+        let s = string_of(self.bytes, c);
+        match c.op {
             BEGIN => is_record_path_of(self.tame, s),
             INCLUDE_ITEM | EXCLUDE_ITEM => is_pattern_of(self.tame, s),
             EXTENDS | REFERENCE => obeys_lead(s),
@@ -49,7 +47,7 @@ impl<'a> BookText<'a> {
         }
     }
 
-    // Whether a command's string lies in the text and keeps the rules of all strings.
+    // Whether a command's string lies in the text and keeps the rules of all strings: all that is asked of a key's, which has no rule of its own.
     #[inline(always)]
     pub fn is_held(&self, c: Cmd) -> bool
         ensures { result ≡ (leb (c.start + c.len) (length self.now.bytes.now) && string_rule (text_of self.now.bytes.now c)) }
@@ -64,11 +62,12 @@ impl<'a> BookText<'a> {
     pub fn is_good(&self, c: Cmd) -> bool
         ensures { result ≡ good_string self.now.bytes.now c }
     {
-        self.is_held(c) && self.own_rule(c.op, string_of(self.bytes, c))
+        self.is_held(c) && self.own_rule(c)
     }
 }
 
-// What a command counts as, where its id and value are in range. That the byte is below 21 is asked here and of what looks it up in a table: a type for it would have to be opened at each.
+// What a command counts as, where its id and value are in range. That the byte is below 21 is asked here and of what looks it up in a table: a type for it would
+// have to be opened at each.
 fn slot_of(c: Cmd) -> Option<usize>
     requires { c.op < 21 }
     ensures { result ≡ slotted c }
@@ -147,10 +146,7 @@ impl Tally {
         requires { op < 21 }
         ensures { result ≡ (eqb (get_or openers op 0) 0 || not (eqb (has self.now.counts (get_or openers op 0)) 0)) }
     {
-        match opener_of(op) {
-            Some(opener) => self.has(usize::from(opener)),
-            None => true,
-        }
+        opener_of(op).is_none_or(|opener| self.has(usize::from(opener)))
     }
 
     // A target comes after its key with only targets between.
@@ -180,10 +176,7 @@ impl Tally {
         if m < FEWEST {
             return false;
         }
-        match limit_of(c.op) {
-            Some(most) => most <= m,
-            None => false,
-        }
+        limit_of(c.op).is_some_and(|most| most <= m)
     }
 
     // One command more, whose slot is k; a key counts its targets anew.
@@ -200,36 +193,42 @@ impl Tally {
     }
 }
 
-// Whether a record's path meets one of those before.
-fn is_given(text: &BookText<'_>, c: Cmd, rows: &[Seen]) -> bool
-    requires { AllSeen text.now.bytes.now rows.now }
-    ensures { result ≡ some_of (meets true (text_of text.now.bytes.now c)) (texts text.now.bytes.now rows.now) }
-{
-    let s = string_of(text.bytes, c);
-    is_met(true, text.bytes, rows, s, digest(s))
+// What a record is held against: the book's text, and the paths of the records before it.
+#[derive(Clone, Copy)]
+pub struct Before<'t, 'p> {
+    pub text: BookText<'t>,
+    pub paths: &'p [Seen],
+    pub ghost seen: { AllSeen text.bytes.now paths.now },
 }
 
-// The slot of a command in which nothing is wrong, or its lowest refusal. The rows are the paths of the records before; a key is not held against those before.
-pub fn fault_of(text: &BookText<'_>, tally: &Tally, c: Cmd, rows: &[Seen]) -> Result<usize, Fault>
-    requires op_bound { c.op < 21 }
-    requires seen { AllSeen text.now.bytes.now rows.now }
-    ensures fault { told result ≡ fault_of text.now.bytes.now (has tally.now.counts) tally.now.last (length rows.now) [] (texts text.now.bytes.now rows.now) c }
-    ensures in_slot { IfOk result (λ k. slotted c ≡ Some k) }
-{
-    let Some(k) = slot_of(c) else {
-        return Err(Fault::OutOfOrder);
-    };
-    if !tally.in_order(c, k) {
-        return Err(Fault::OutOfOrder);
+impl Before<'_, '_> {
+    // Whether a record's path meets one of those before.
+    fn is_given(&self, c: Cmd) -> bool
+        ensures { result ≡ some_of (meets true (text_of self.now.text.bytes.now c)) (texts self.now.text.bytes.now self.now.paths.now) }
+    {
+        let s = string_of(self.text.bytes, c);
+        is_met(self.text.bytes, self.paths, s, digest(s))
     }
-    if !text.is_good(c) {
-        return Err(Fault::BadString);
+
+    // The slot of a command in which nothing is wrong, or its lowest refusal. A key is not held against those before.
+    pub fn fault_of(&self, tally: &Tally, c: Cmd) -> Result<usize, Fault>
+        requires { c.op < 21 }
+        ensures fault { told result ≡ fault_of self.now.text.bytes.now (has tally.now.counts) tally.now.last (length self.now.paths.now) [] (texts self.now.text.bytes.now self.now.paths.now) c }
+        ensures in_slot { IfOk result (λ k. slotted c ≡ Some k) }
+    {
+        let k = slot_of(c).ok_or(Fault::OutOfOrder)?;
+        if !tally.in_order(c, k) {
+            return Err(Fault::OutOfOrder);
+        }
+        if !self.text.is_good(c) {
+            return Err(Fault::BadString);
+        }
+        if tally.is_too_many(c, k, self.paths.len()) {
+            return Err(Fault::TooMany);
+        }
+        if c.op == BEGIN && self.is_given(c) {
+            return Err(Fault::GivenBefore);
+        }
+        Ok(k)
     }
-    if tally.is_too_many(c, k, rows.len()) {
-        return Err(Fault::TooMany);
-    }
-    if c.op == BEGIN && is_given(text, c, rows) {
-        return Err(Fault::GivenBefore);
-    }
-    Ok(k)
 }

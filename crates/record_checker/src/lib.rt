@@ -3,11 +3,11 @@
 
 ghost use Rattle.std.specs.Prelude.{◌≡◌, not, ◌&&◌, ◌+◌, ◌<◌, ◌≤◌, length, get_or, eqb, leb};
 ghost use Rattle.book.specs.Command.{begin, end};
-ghost use Rattle.book.specs.State.{has, AllSeen};
+ghost use Rattle.book.specs.State.{has};
 ghost use Rattle.book.specs.Checks.{CheckedAs};
 
 use book::{BEGIN_SLOT, Closed, END, END_SLOT, Fault, KEY, Refusal, Seen, command_at, word_at};
-use faults::{BookText, Tally, fault_of};
+use faults::{Before, Tally};
 use meeting::Keys;
 use usual::pass;
 
@@ -21,23 +21,22 @@ fn is_ended(part: &[u8], at: usize, tally: &Tally) -> bool
     tally.has(BEGIN_SLOT) && !tally.has(END_SLOT)
 }
 
-// One record's commands, from its BEGIN on, which stands at base. Of the records before it the rows say the paths; keys is room for its keys.
+// One record's commands, from its BEGIN on, which stands at base; keys is room for its keys.
 pub fn check_record(
-    text: &BookText<'_>,
+    before: &Before<'_, '_>,
     part: &[u8],
     base: usize,
-    rows: &[Seen],
     keys: &mut Keys,
 ) -> Result<Closed, Refusal>
-    requires part_nonzero { (0 < length part.now) × (base + length part.now ≤ 32768) }
-    requires seen { AllSeen text.now.bytes.now rows.now }
-    ensures { CheckedAs part.now base text.now.bytes.now rows.now result }
+    requires { (0 < length part.now) × (base + length part.now ≤ 32768) }
+    ensures { CheckedAs part.now base before.now.text.bytes.now before.now.paths.now result }
 {
     keys.clear();
     let mut tally = Tally::new();
     let mut at = 0;
+    // `pass` takes several commands at once: the offset goes on by what was taken.
     loop {
-        let to = pass(text, part, at, &mut tally, keys);
+        let to = pass(&before.text, part, at, &mut tally, keys);
         if at < to {
             at = to;
             continue;
@@ -50,18 +49,11 @@ pub fn check_record(
                 len: word_at(part, 3),
             });
         }
-        let Ok((c, next)) = command_at(part, at) else {
-            return Err(Refusal {
-                fault: Fault::Broken,
-                place,
-            });
-        };
-        let k = fault_of(text, &tally, c, rows).map_err(|fault| Refusal { fault, place })?;
+        let refusal = |fault| Refusal { fault, place };
+        let (c, next) = command_at(part, at).map_err(|_| refusal(Fault::Broken))?;
+        let k = before.fault_of(&tally, c).map_err(&refusal)?;
         if c.op == KEY {
-            return Err(Refusal {
-                fault: Fault::GivenBefore,
-                place,
-            });
+            return Err(refusal(Fault::GivenBefore));
         }
         tally.push(c, k);
         at = next;

@@ -24,7 +24,7 @@ abbrev pub open_now : List ℕ → ℕ → ℕ → Bool
 open_now counts last op =
     (not (eqb op target) || (eqb last key || eqb last target)) && (eqb (get_or openers op 0) 0 || not (eqb (has counts (get_or openers op 0)) 0))
 
--- how many there may be now of a command with a string, neither BEGIN nor a key: None where it may not come
+-- how many there may be now of a command with a string, neither BEGIN nor a key: none where it may not come
 unfoldable pub most_now : List ℕ → ℕ → ℕ → ℕ
 most_now counts last op = cond (eqb (width_of op) 4 && (not (eqb op begin || eqb op key) && open_now counts last op)) (most_of op) 0
 
@@ -54,7 +54,7 @@ pub data Passed (part text : Text) (counts : List ℕ) (last at : ℕ) : List �
       {counts' : List ℕ} {last' at' k : ℕ} {c : Cmd} {nx : ℕ} → Passed part text counts last at counts' last' at' → step_at part at' ≡ Ok (c, nx) → Usual text counts' last' k c →
       Passed part text counts last at (pushed counts' c k) c.op nx
 
--- What was taken from the offset on: usual commands, or a key, whose row comes behind the others; or nothing, where a key is not fine or None stands there.
+-- What was taken from the offset on: usual commands, or a key, whose row comes behind the others; or nothing, where a key is not fine or none stands there.
 pub data Taken (part text : Text) (counts : List ℕ) (last at : ℕ) (keys : List Seen) : List ℕ → ℕ → ℕ → List Seen → Type 0 where
   passed : {counts' : List ℕ} {last' to : ℕ} → (get_or part at 0 ≡ key → ⊥) → Passed part text counts last at counts' last' to → Taken part text counts last at keys counts' last' to keys
   keyed :

@@ -4,6 +4,7 @@ use borrow.Author.Rules.{rules}
 use Rattle.std.specs.Prelude.{Result, Err, Some}
 use Rattle.std.specs.Result.{IfOk}
 use Rattle.book.specs.declared.Fault.{Fault}
+use Rattle.book.specs.declared.Fault.TheVariants.{Broken, GivenBefore}
 use Rattle.book.specs.State.{slotted}
 use Rattle.record_checker.proofs.Mapped.{mapped_ok, mapped_err}
 use native.Mathlib.Omega.{arith}
@@ -31,27 +32,33 @@ word_at-requires-then-is_ended c = omega (arith, ended_long _ _ _ _ (stood _ _ _
 pub returns-then-is_ended : goal.returns-then-is_ended
 returns-then-is_ended c = ended_closed _ _ _ _ (stood _ _ _ _ c.loop-at.invariant c.pass-to.ensures c.if-at-to.false) _ c.is_ended.ensures c.if-is_ended.true _ _ c.word_at.ensures c.word_at-then-is_ended.ensures
 
-pub returns-in_default : goal.returns-in_default
-returns-in_default c = turn_stopped _ _ _ _ (stood _ _ _ _ c.loop-at.invariant c.pass-to.ensures c.if-at-to.false) c.command_at.ensures c.requires.part_nonzero.0 _ c.in_default.is
+pub returns-in_err-c : goal.returns-in_err-c
+returns-in_err-c c =
+    let m = mapped_err c.command_at.result c.map_err.result _ c.map_err.ensures.cases _ c.in_err-c.was in
+    let q : c.in_err-c.field-0.0 ≡ record { fault = Broken; place = c.args.base + c.loop-at.at } = search (rules, m.1.1) in
+    let r : c.from_residual.result ≡ Err c.in_err-c.field-0.0 = search rules in
+    rw (r, q) (turn_stopped _ _ _ _ (stood _ _ _ _ c.loop-at.invariant c.pass-to.ensures c.if-at-to.false) c.command_at.ensures c.requires.0 _ m.1.0)
 
-pub fault_of-requires-clause-op_bound : goal.fault_of-requires-clause-op_bound
-fault_of-requires-clause-op_bound c = byte_known _ _ _ _ (stood _ _ _ _ c.loop-at.invariant c.pass-to.ensures c.if-at-to.false) c.command_at.ensures c.in-Ok.is
+pub fault_of-requires : goal.fault_of-requires
+fault_of-requires c = byte_known _ _ _ _ (stood _ _ _ _ c.loop-at.invariant c.pass-to.ensures c.if-at-to.false) c.command_at.ensures (mapped_ok c.command_at.result c.map_err.result _ c.map_err.ensures.cases _ c.in_ok-c.was)
 
 pub returns-in_err-k : goal.returns-in_err-k
 returns-in_err-k c =
-    let m = mapped_err c.fault_of.result c.map_err.result _ c.map_err.ensures.cases _ c.in_err-k.was in
+    let m = mapped_err c.fault_of.result c.map_err-in-loop-at.result _ c.map_err-in-loop-at.ensures.cases _ c.in_err-k.was in
     let q : c.in_err-k.field-0.0 ≡ record { fault = m.0; place = c.args.base + c.loop-at.at } = search (rules, m.1.1) in
-    let r : c.from_residual.result ≡ Err c.in_err-k.field-0.0 = search rules in
-    rw (r, q) (turn_refused _ _ _ _ (stood _ _ _ _ c.loop-at.invariant c.pass-to.ensures c.if-at-to.false) c.command_at.ensures c.in-Ok.is _ (sym c.fault_of.ensures.fault ∙ ap told m.1.0))
+    let r : c.from_residual-in_err-k.result ≡ Err c.in_err-k.field-0.0 = search rules in
+    rw (r, q) (turn_refused _ _ _ _ (stood _ _ _ _ c.loop-at.invariant c.pass-to.ensures c.if-at-to.false) c.command_at.ensures (mapped_ok c.command_at.result c.map_err.result _ c.map_err.ensures.cases _ c.in_ok-c.was) _ (sym c.fault_of.ensures.fault ∙ ap told m.1.0))
 
 pub returns-then-c-eq-KEY : goal.returns-then-c-eq-KEY
-returns-then-c-eq-KEY c = key_refused _ _ _ _ (stood _ _ _ _ c.loop-at.invariant c.pass-to.ensures c.if-at-to.false) c.command_at.ensures c.in-Ok.is (sym c.fault_of.ensures.fault ∙ ap told (mapped_ok c.fault_of.result c.map_err.result _ c.map_err.ensures.cases _ c.in_ok-k.was)) c.if-c-eq-KEY.true (left_key _ _ _ _ _ _ c.pass-to.ensures c.if-at-to.false _ _ (sym c.in-Ok.is ∙ c.command_at.ensures) c.if-c-eq-KEY.true)
+returns-then-c-eq-KEY c =
+    let q : c.refusal.result ≡ record { fault = GivenBefore; place = c.args.base + c.loop-at.at } = search rules in
+    rw q (key_refused _ _ _ _ (stood _ _ _ _ c.loop-at.invariant c.pass-to.ensures c.if-at-to.false) c.command_at.ensures (mapped_ok c.command_at.result c.map_err.result _ c.map_err.ensures.cases _ c.in_ok-c.was) (sym c.fault_of.ensures.fault ∙ ap told (mapped_ok c.fault_of.result c.map_err-in-loop-at.result _ c.map_err-in-loop-at.ensures.cases _ c.in_ok-k.was)) c.if-c-eq-KEY.true (left_key _ _ _ _ _ _ c.pass-to.ensures c.if-at-to.false _ _ (sym (mapped_ok c.command_at.result c.map_err.result _ c.map_err.ensures.cases _ c.in_ok-c.was) ∙ c.command_at.ensures) c.if-c-eq-KEY.true))
 
 pub push-requires : goal.push-requires
-push-requires c = (turn_slot _ _ _ _ (stood _ _ _ _ c.loop-at.invariant c.pass-to.ensures c.if-at-to.false) c.command_at.ensures c.in-Ok.is (clear_here _ _ _ _ (stood _ _ _ _ c.loop-at.invariant c.pass-to.ensures c.if-at-to.false) c.command_at.ensures c.in-Ok.is (sym c.fault_of.ensures.fault ∙ ap told (mapped_ok c.fault_of.result c.map_err.result _ c.map_err.ensures.cases _ c.in_ok-k.was)) c.if-c-eq-KEY.false) (subst (λ (r : Result ℕ Fault). IfOk r (λ k. slotted c.in-Ok.c ≡ Some k)) (mapped_ok c.fault_of.result c.map_err.result _ c.map_err.ensures.cases _ c.in_ok-k.was) c.fault_of.ensures.in_slot), slot_room _ _ _ _ (stood _ _ _ _ c.loop-at.invariant c.pass-to.ensures c.if-at-to.false) c.command_at.ensures c.in-Ok.is (clear_here _ _ _ _ (stood _ _ _ _ c.loop-at.invariant c.pass-to.ensures c.if-at-to.false) c.command_at.ensures c.in-Ok.is (sym c.fault_of.ensures.fault ∙ ap told (mapped_ok c.fault_of.result c.map_err.result _ c.map_err.ensures.cases _ c.in_ok-k.was)) c.if-c-eq-KEY.false) (subst (λ (r : Result ℕ Fault). IfOk r (λ k. slotted c.in-Ok.c ≡ Some k)) (mapped_ok c.fault_of.result c.map_err.result _ c.map_err.ensures.cases _ c.in_ok-k.was) c.fault_of.ensures.in_slot))
+push-requires c = (turn_slot _ _ _ _ (stood _ _ _ _ c.loop-at.invariant c.pass-to.ensures c.if-at-to.false) c.command_at.ensures (mapped_ok c.command_at.result c.map_err.result _ c.map_err.ensures.cases _ c.in_ok-c.was) (clear_here _ _ _ _ (stood _ _ _ _ c.loop-at.invariant c.pass-to.ensures c.if-at-to.false) c.command_at.ensures (mapped_ok c.command_at.result c.map_err.result _ c.map_err.ensures.cases _ c.in_ok-c.was) (sym c.fault_of.ensures.fault ∙ ap told (mapped_ok c.fault_of.result c.map_err-in-loop-at.result _ c.map_err-in-loop-at.ensures.cases _ c.in_ok-k.was)) c.if-c-eq-KEY.false) (subst (λ (r : Result ℕ Fault). IfOk r (λ k. slotted c.in_ok-c.c ≡ Some k)) (mapped_ok c.fault_of.result c.map_err-in-loop-at.result _ c.map_err-in-loop-at.ensures.cases _ c.in_ok-k.was) c.fault_of.ensures.in_slot), slot_room _ _ _ _ (stood _ _ _ _ c.loop-at.invariant c.pass-to.ensures c.if-at-to.false) c.command_at.ensures (mapped_ok c.command_at.result c.map_err.result _ c.map_err.ensures.cases _ c.in_ok-c.was) (clear_here _ _ _ _ (stood _ _ _ _ c.loop-at.invariant c.pass-to.ensures c.if-at-to.false) c.command_at.ensures (mapped_ok c.command_at.result c.map_err.result _ c.map_err.ensures.cases _ c.in_ok-c.was) (sym c.fault_of.ensures.fault ∙ ap told (mapped_ok c.fault_of.result c.map_err-in-loop-at.result _ c.map_err-in-loop-at.ensures.cases _ c.in_ok-k.was)) c.if-c-eq-KEY.false) (subst (λ (r : Result ℕ Fault). IfOk r (λ k. slotted c.in_ok-c.c ≡ Some k)) (mapped_ok c.fault_of.result c.map_err-in-loop-at.result _ c.map_err-in-loop-at.ensures.cases _ c.in_ok-k.was) c.fault_of.ensures.in_slot))
 
 pub loop-at-smaller : goal.loop-at-smaller
-loop-at-smaller c = turn_less _ _ _ _ (stood _ _ _ _ c.loop-at.invariant c.pass-to.ensures c.if-at-to.false) c.command_at.ensures c.in-Ok.is (clear_here _ _ _ _ (stood _ _ _ _ c.loop-at.invariant c.pass-to.ensures c.if-at-to.false) c.command_at.ensures c.in-Ok.is (sym c.fault_of.ensures.fault ∙ ap told (mapped_ok c.fault_of.result c.map_err.result _ c.map_err.ensures.cases _ c.in_ok-k.was)) c.if-c-eq-KEY.false)
+loop-at-smaller c = turn_less _ _ _ _ (stood _ _ _ _ c.loop-at.invariant c.pass-to.ensures c.if-at-to.false) c.command_at.ensures (mapped_ok c.command_at.result c.map_err.result _ c.map_err.ensures.cases _ c.in_ok-c.was) (clear_here _ _ _ _ (stood _ _ _ _ c.loop-at.invariant c.pass-to.ensures c.if-at-to.false) c.command_at.ensures (mapped_ok c.command_at.result c.map_err.result _ c.map_err.ensures.cases _ c.in_ok-c.was) (sym c.fault_of.ensures.fault ∙ ap told (mapped_ok c.fault_of.result c.map_err-in-loop-at.result _ c.map_err-in-loop-at.ensures.cases _ c.in_ok-k.was)) c.if-c-eq-KEY.false)
 
 pub loop-at-preserved : goal.loop-at-preserved
-loop-at-preserved c = looked_on _ _ _ _ (stood _ _ _ _ c.loop-at.invariant c.pass-to.ensures c.if-at-to.false) c.command_at.ensures c.in-Ok.is (sym c.fault_of.ensures.fault ∙ ap told (mapped_ok c.fault_of.result c.map_err.result _ c.map_err.ensures.cases _ c.in_ok-k.was)) c.if-c-eq-KEY.false (subst (λ (r : Result ℕ Fault). IfOk r (λ k. slotted c.in-Ok.c ≡ Some k)) (mapped_ok c.fault_of.result c.map_err.result _ c.map_err.ensures.cases _ c.in_ok-k.was) c.fault_of.ensures.in_slot) (no_end _ _ _ _ (stood _ _ _ _ c.loop-at.invariant c.pass-to.ensures c.if-at-to.false) _ c.is_ended.ensures c.if-is_ended.false c.command_at.ensures c.in-Ok.is (sym c.fault_of.ensures.fault ∙ ap told (mapped_ok c.fault_of.result c.map_err.result _ c.map_err.ensures.cases _ c.in_ok-k.was))) _ c.push.ensures.counts_after _ c.push.ensures.last_after
+loop-at-preserved c = looked_on _ _ _ _ (stood _ _ _ _ c.loop-at.invariant c.pass-to.ensures c.if-at-to.false) c.command_at.ensures (mapped_ok c.command_at.result c.map_err.result _ c.map_err.ensures.cases _ c.in_ok-c.was) (sym c.fault_of.ensures.fault ∙ ap told (mapped_ok c.fault_of.result c.map_err-in-loop-at.result _ c.map_err-in-loop-at.ensures.cases _ c.in_ok-k.was)) c.if-c-eq-KEY.false (subst (λ (r : Result ℕ Fault). IfOk r (λ k. slotted c.in_ok-c.c ≡ Some k)) (mapped_ok c.fault_of.result c.map_err-in-loop-at.result _ c.map_err-in-loop-at.ensures.cases _ c.in_ok-k.was) c.fault_of.ensures.in_slot) (no_end _ _ _ _ (stood _ _ _ _ c.loop-at.invariant c.pass-to.ensures c.if-at-to.false) _ c.is_ended.ensures c.if-is_ended.false c.command_at.ensures (mapped_ok c.command_at.result c.map_err.result _ c.map_err.ensures.cases _ c.in_ok-c.was) (sym c.fault_of.ensures.fault ∙ ap told (mapped_ok c.fault_of.result c.map_err-in-loop-at.result _ c.map_err-in-loop-at.ensures.cases _ c.in_ok-k.was))) _ c.push.ensures.counts_after _ c.push.ensures.last_after
