@@ -103,7 +103,7 @@ pub enum Stop {
 }
 
 // Whether a command's operands are a string and nothing else, as most commands' are.
-fn is_spanned(op: u8) -> bool
+pub fn is_spanned(op: u8) -> bool
     ensures { result ≡ eqb (width_of op) 4 }
 {
     matches!(

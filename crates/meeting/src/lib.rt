@@ -32,7 +32,8 @@ fn may_meet(size: usize, len: usize, mark: u8, other: u8) -> bool
     size != len || mark == other
 }
 
-// Whether one of the rows' paths meets s, whose digest is given. The last row is looked at first.
+// Whether one of the rows' paths meets s, whose digest is given. The last row is looked at first. That the rows are seen is asked here and of keys: `Before` of `faults`,
+// which has it with the text, stands above.
 pub fn is_met(text: &[u8], rows: &[Seen], s: &[u8], mark: u8) -> bool
     requires seen { AllSeen text.now rows.now }
     requires mark_value { mark ≡ digest_of s.now }
