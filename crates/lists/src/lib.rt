@@ -11,11 +11,11 @@ pub fn byte_at(s: &[u8], at: usize) -> usize
     ensures value { result ≡ low_first 1 s.now at }
     ensures small { result < 256 }
 {
-    match s.get(at) {
-        Some(x) => usize::from(*x),
-        None => 0,
-    }
+    s.get(at).map_or(0, |x| usize::from(*x))
 }
+
+// The numbers of two, three and four bytes, each by the narrower ones: one function over their count is a loop with a bound, and no plainer. A byte that
+// is not there is 0, where `word_at` of `book`, over which these programs do not stand, asks that it is there.
 
 // The two bytes at `at`, low first.
 pub fn word_at(s: &[u8], at: usize) -> usize
@@ -45,7 +45,7 @@ pub fn long_at(s: &[u8], at: usize) -> usize
 }
 
 // Entries, those that disagree with what is listed, and the number of the first of these, 0 where there is none.
-#[derive(Clone, Copy, PartialEq, Eq)]
+#[derive(Clone, Copy, PartialEq, Eq, Default)]
 pub struct Tally {
     pub entries: u64,
     pub wrong: u64,
@@ -59,11 +59,7 @@ impl Tally {
         ensures wrong { result.wrong ≡ 0 }
         ensures first { result.first ≡ 0 }
     {
-        Tally {
-            entries: 0,
-            wrong: 0,
-            first: 0,
-        }
+        Tally::default()
     }
 
     // One entry more. Numbers stay where they can grow no more.

@@ -7,6 +7,7 @@ ghost use Rattle.std.specs.Prelude.{◌≤◌, length};
 use component_walk::Components;
 use components::lead_len;
 use emit::Output;
+use lists::Tally;
 use std::iter::once;
 use std::rt::Files;
 use streams::{fail, read_file, say, say_number};
@@ -110,27 +111,13 @@ fn glob_agrees(line: &[u8]) -> bool {
     matcher::matches(pattern, path) == is_yes(is_match)
 }
 
-// Lines read, lines that disagree, and the first of these.
-#[derive(Clone, Copy, Default)]
-struct Tally {
-    lines: usize,
-    wrong: usize,
-    first: usize,
-}
-
-// The lines of a list, one after the other.
+// How the lines of a list fare, one after the other.
 fn replay<F: Fn(&[u8]) -> bool>(list: &[u8], line_agrees: F) -> Tally
     requires { F.IsAlwaysCallable line_agrees }
 {
-    let mut tally = Tally::default();
-    for (k, line) in list.split_inclusive(|x| *x == LINE_END).enumerate() {
-        tally.lines = k + 1;
-        if !line_agrees(part_before(line, LINE_END)) {
-            tally.wrong = tally.wrong.saturating_add(1);
-            if tally.first == 0 {
-                tally.first = tally.lines;
-            }
-        }
+    let mut tally = Tally::new();
+    for line in list.split_inclusive(|x| *x == LINE_END) {
+        tally = tally.with(line_agrees(part_before(line, LINE_END)));
     }
     tally
 }
@@ -138,8 +125,8 @@ fn replay<F: Fn(&[u8]) -> bool>(list: &[u8], line_agrees: F) -> Tally
 // Writes how a list fared, of so many bytes.
 fn say_tally(rt: &(impl Print + Eprint), name: &str, bytes: usize, tally: &Tally) {
     say(rt, name.as_bytes());
-    for number in [bytes, tally.lines, tally.wrong, tally.first] {
-        say_number(rt, number as u64);
+    for number in [bytes as u64, tally.entries, tally.wrong, tally.first] {
+        say_number(rt, number);
     }
     say(rt, b"\n");
 }
@@ -148,6 +135,7 @@ fn say_tally(rt: &(impl Print + Eprint), name: &str, bytes: usize, tally: &Tally
 fn report<F: Fn(&[u8]) -> bool>(rt: &(impl Files + Print + Eprint), name: &str, line_agrees: F)
     requires { F.IsAlwaysCallable line_agrees }
 {
+    // Room of fixed length, as each buffer here: no program takes memory from a heap.
     let mut buffer = [0u8; 524288];
     match read_file(rt, name, &mut buffer) {
         Ok(n) => say_tally(rt, name, n, &replay(&buffer[..n], line_agrees)),
