@@ -90,6 +90,7 @@ fn say_list(rt: &(impl Print + Eprint), name: &[u8], count: u64, list: &[u8]) {
     say(rt, name);
     say_number(rt, count);
     say(rt, b"\n");
+    // A path says its own length: the rest begins behind it.
     let mut rest = list;
     while !rest.is_empty() {
         let size = word_at(rest, 0);
@@ -129,56 +130,32 @@ fn answer(rt: &(impl Print + Eprint), book: &Book, line: &[u8], out: &mut [u8]) 
 fn answer_lines(rt: &(impl Print + Eprint), book: &Book, input: &[u8], out: &mut [u8]) -> usize
     ensures { result ≤ length input.now }
 {
-    let mut rest = input;
-    while let Some(i) = find_byte(rest, LINE_END) {
-        answer(rt, book, upto(rest, i), out);
-        rest = from(rest, i + 1);
+    let Some(last) = input.iter().rposition(|x| *x == LINE_END) else {
+        return input.len();
+    };
+    for line in input[..last].split(|x| *x == LINE_END) {
+        answer(rt, book, line, out);
     }
-    rest.len()
+    input[last + 1..].len()
 }
 
-// How many bytes at the start of the buffer wait for their line's end, and whether that line is passed over.
-#[derive(Clone, Copy)]
-pub struct Held {
-    pub count: usize,
-    pub passing: bool,
-}
-
-// Answers the lines that have their end in an input, after the end of the line that is passed over, if one is. Gives what waits at its end.
+// Answers the lines that have their end in an input, after the end of the line that is passed over, if one is. Gives how many bytes at its end wait
+// for their line's end; none where that line is passed over.
 fn answer_input(
     rt: &(impl Print + Eprint),
     book: &Book,
     input: &[u8],
     passing: bool,
     out: &mut [u8],
-) -> Held
-    ensures { result.count ≤ length input.now }
+) -> Option<usize>
+    ensures { IfSome result (λ n. n ≤ length input.now) }
 {
-    let lines = match find_byte(input, LINE_END) {
-        _ if !passing => input,
-        Some(i) => from(input, i + 1),
-        None => {
-            return Held {
-                count: 0,
-                passing: true,
-            };
-        }
+    let lines = if passing {
+        from(input, find_byte(input, LINE_END)? + 1)
+    } else {
+        input
     };
-    Held {
-        count: answer_lines(rt, book, lines, out),
-        passing: false,
-    }
-}
-
-// Moves the bytes from `at` up to `end` to the start.
-fn move_down(buffer: &mut [u8], at: usize, end: usize)
-    requires at_le_end { at ≤ end }
-    requires end_in_bounds { end ≤ length buffer.old }
-    ensures { length buffer.new ≤ length buffer.old }
-{
-    for i in 0..end - at {
-        buffer[i] = buffer[at + i];
-    }
+    Some(answer_lines(rt, book, lines, out))
 }
 
 // Reads what comes next of standard input to the place `at`. Gives how many bytes came: none at its end.
@@ -195,8 +172,8 @@ fn read_more(rt: &impl Eprint, input: &mut impl Read, buffer: &mut [u8], at: usi
     }
 }
 
-// Answers the lines that have their end in the first `end` bytes of the buffer, and keeps what follows at its start. A line that fills the
-// buffer is too long, and is passed over.
+// Answers the lines that have their end in the first `end` bytes of the buffer, and keeps what follows at its start: how many bytes, none where
+// their line is passed over. A line that fills the buffer is too long, and is passed over.
 fn take_in(
     rt: &(impl Print + Eprint),
     book: &Book,
@@ -204,58 +181,36 @@ fn take_in(
     end: usize,
     passing: bool,
     out: &mut [u8],
-) -> Held
+) -> Option<usize>
     requires { end ≤ length buffer.old }
-    ensures { result.count ≤ length buffer.old }
+    ensures { IfSome result (λ n. n ≤ length buffer.old) }
 {
-    let held = answer_input(rt, book, upto(buffer, end), passing, out);
-    if held.count == buffer.len() {
+    let count = answer_input(rt, book, upto(buffer, end), passing, out)?;
+    if count == buffer.len() {
         say_line(rt, b"line too long: at most 4095 bytes");
-        return Held {
-            count: 0,
-            passing: true,
-        };
-    }
-    move_down(buffer, end - held.count, end);
-    held
-}
-
-// Reads once and answers what can be answered then. At the end of the input what waits is the last line, and there is no turn more.
-fn turn(
-    rt: &(impl Print + Eprint),
-    input: &mut impl Read,
-    book: &Book,
-    buffer: &mut [u8],
-    held: Held,
-    out: &mut [u8],
-) -> Option<Held>
-    requires { held.count ≤ length buffer.old }
-    ensures { IfSome result (λ h. h.count ≤ length buffer.old) }
-{
-    let count = held.count;
-    let got = read_more(rt, input, buffer, count);
-    if got == 0 {
-        if 0 < count {
-            answer(rt, book, upto(buffer, count), out);
-        }
         return None;
     }
-    Some(take_in(rt, book, buffer, count + got, held.passing, out))
+    buffer.copy_within(end - count..end, 0);
+    Some(count)
 }
 
-// Answers the lines of standard input. They are read through the lent buffer. Nothing says that an input ends, so the turns are counted, up to
-// a number that no run reaches.
+// Answers the lines of standard input. They are read through the lent buffer, at whose start some bytes wait for their line's end, none where
+// that line is passed over: at the end of the input they are the last line. Nothing says that an input ends, so the turns are counted, up to a
+// number that no run reaches.
 fn answer_all(rt: &(impl Input + Print + Eprint), book: &Book, buffer: &mut [u8], out: &mut [u8]) {
     let mut input = rt.reader();
-    let mut held = Held {
-        count: 0,
-        passing: false,
-    };
+    let mut held = Some(0);
     for _ in 0..u64::MAX {
-        match turn(rt, &mut input, book, buffer, held, out) {
-            Some(next) => held = next,
-            None => return,
+        let count = held.unwrap_or(0);
+        let got = read_more(rt, &mut input, buffer, count);
+        if got == 0 {
+            break;
         }
+        held = take_in(rt, book, buffer, count + got, held.is_none(), out);
+    }
+    match held {
+        None | Some(0) => {}
+        Some(count) => answer(rt, book, upto(buffer, count), out),
     }
 }
 
@@ -278,9 +233,24 @@ pub fn load(rt: &(impl Files + Eprint), name: &[u8], room: &mut [u8]) -> Option<
 
 // Answers the lines of standard input about a book, with room for every answer.
 fn answer_stdin(rt: &(impl Input + Print + Eprint), book: &Book) {
+    // Room of fixed length, here and in `run`: no program takes memory from a heap.
     let mut buffer = [0u8; 4096];
     let mut out = [0u8; 1048576];
     answer_all(rt, book, &mut buffer, &mut out);
+}
+
+// Reads the book of the current folder, as far as there is room.
+pub fn load_book<'a>(
+    rt: &(impl Files + Eprint),
+    commands: &'a mut [u8],
+    text: &'a mut [u8],
+) -> Option<Book<'a>> {
+    let m = load(rt, b"book.cmd", commands)?;
+    let n = load(rt, b"book.txt", text)?;
+    Some(Book {
+        commands: upto(commands, m),
+        text: upto(text, n),
+    })
 }
 
 // Answers the lines of standard input about the book of the current folder. A book that is too large is read one byte further than is allowed,
@@ -288,15 +258,7 @@ fn answer_stdin(rt: &(impl Input + Print + Eprint), book: &Book) {
 pub fn run(rt: &(impl Files + Input + Print + Eprint)) {
     let mut commands = [0u8; 32769];
     let mut text = [0u8; 65536];
-    let Some(m) = load(rt, b"book.cmd", &mut commands) else {
-        return;
-    };
-    let Some(n) = load(rt, b"book.txt", &mut text) else {
-        return;
-    };
-    let book = Book {
-        commands: upto(&commands, m),
-        text: upto(&text, n),
-    };
-    answer_stdin(rt, &book);
+    if let Some(book) = load_book(rt, &mut commands, &mut text) {
+        answer_stdin(rt, &book);
+    }
 }

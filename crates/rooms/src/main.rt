@@ -6,7 +6,7 @@
 ghost use Rattle.std.specs.Prelude.{◌<◌, ◌≤◌, length};
 
 use asked::{fields, fill, first_field, is_kept, other_fields};
-use asking::{Book, Question, ask, load, question_of, say, say_number};
+use asking::{Book, Question, ask, load, load_book, question_of, say, say_number};
 use replies::Numbers;
 use text::{from, part_before, upto};
 
@@ -165,30 +165,22 @@ fn check_line(
 fn check_all(rt: &(impl Print + Eprint), book: &Book, list: &[u8]) {
     let mut room = [0u8; 8192];
     let mut ample = [0u8; 65536];
-    let mut rest = list;
-    while !rest.is_empty() {
-        let line = part_before(rest, LINE_END);
+    for line in list.split_inclusive(|x| *x == LINE_END) {
+        let line = part_before(line, LINE_END);
         check_line(rt, book, line, &mut room, &mut ample);
-        rest = from(rest, line.len() + 1);
     }
 }
 
 fn main(rt: HostRuntime) {
+    // Room of fixed length, here and in `check_all`: no program takes memory from a heap.
     let mut commands = [0u8; 32769];
     let mut text = [0u8; 65536];
     let mut list = [0u8; 65536];
-    let Some(m) = load(&rt, b"book.cmd", &mut commands) else {
+    let Some(book) = load_book(&rt, &mut commands, &mut text) else {
         return;
     };
-    let Some(n) = load(&rt, b"book.txt", &mut text) else {
+    let Some(n) = load(&rt, b"questions", &mut list) else {
         return;
     };
-    let Some(k) = load(&rt, b"questions", &mut list) else {
-        return;
-    };
-    let book = Book {
-        commands: upto(&commands, m),
-        text: upto(&text, n),
-    };
-    check_all(&rt, &book, upto(&list, k));
+    check_all(&rt, &book, upto(&list, n));
 }

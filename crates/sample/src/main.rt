@@ -78,6 +78,7 @@ fn replay_questions(
     room: &mut [u8],
 ) -> Tally {
     let mut tally = before;
+    // An entry says its own length: the rest begins behind it.
     let mut rest = list;
     while let [letter, strings @ ..] = rest {
         let (body, next) = split_string(strings);
@@ -93,6 +94,7 @@ fn replay_questions(
 // about it.
 fn replay(list: &[u8], counts: &mut [u64], room: &mut [u8]) -> Tally {
     let mut tally = Tally::new();
+    // A book says its own length: the rest begins behind it.
     let mut rest = list;
     while !rest.is_empty() {
         let size = long_at(rest, 0);
@@ -116,6 +118,7 @@ fn write_counts(rt: &(impl Print + Eprint), counts: &[u64]) {
 }
 
 fn main(rt: HostRuntime) {
+    // Room of fixed length: no program takes memory from a heap.
     let mut list = [0u8; 524288];
     let mut room = [0u8; 8192];
     let mut counts = [0u64; 14];

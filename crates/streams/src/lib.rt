@@ -1,5 +1,5 @@
 // What programs do with files and with the standard streams: bytes and numbers written to standard output, a file read into lent room. What fails
-// is said on standard error, and the program goes on.
+// is said on standard error, and the program goes on. What writes has no `ensures`: no contract can say what the system wrote (DECISIONS 52).
 #![tactic(auto)]
 
 ghost use Rattle.std.specs.Prelude.{◌<◌, length, take, IfOk};
@@ -36,7 +36,7 @@ pub fn read_full<R: Read>(input: &mut R, room: &mut [u8]) -> Result<usize>
     ensures end { IfOk result (λ n. n < length room.old → IsAtEnd (R.remaining input.new)) }
 {
     let mut at = 0;
-    // Each read moves the place by as many bytes as came.
+    // Each read moves the place by as many bytes as came: read_exact tells no count, and read_to_end takes a Vec.
     while at < room.len() {
         match input.read(&mut room[at..])? {
             0 => break,
