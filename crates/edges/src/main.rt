@@ -30,16 +30,20 @@ enum Kind {
     BadText,
 }
 
-fn kind_of(byte: usize) -> Option<Kind> {
-    match byte {
-        0 => Some(Kind::Group),
-        1 => Some(Kind::Book),
-        2 => Some(Kind::Commands),
-        3 => Some(Kind::Text),
-        4 => Some(Kind::Verdict),
-        5 => Some(Kind::BadCommand),
-        6 => Some(Kind::BadText),
-        _ => None,
+impl TryFrom<usize> for Kind {
+    type Error = ();
+
+    fn try_from(byte: usize) -> Result<Kind, ()> {
+        match byte {
+            0 => Ok(Kind::Group),
+            1 => Ok(Kind::Book),
+            2 => Ok(Kind::Commands),
+            3 => Ok(Kind::Text),
+            4 => Ok(Kind::Verdict),
+            5 => Ok(Kind::BadCommand),
+            6 => Ok(Kind::BadText),
+            _ => Err(()),
+        }
     }
 }
 
@@ -103,38 +107,25 @@ fn listed(body: &[u8]) -> Verdict {
     }
 }
 
-// The sum of the verdicts on a book with each byte, from the highest down, at a place of its commands, which are the first n bytes. The byte is
-// put back.
-fn bad_command(commands: &mut [u8], n: usize, text: &[u8], at: usize) -> usize {
-    if commands.len() <= at {
+// The sum of the verdicts with each byte, from the highest down, at a place of s. The byte is put back.
+fn bad_sum<F: Fn(&[u8]) -> Verdict>(s: &mut [u8], at: usize, verdict: F) -> usize
+    requires { F.IsAlwaysCallable verdict }
+{
+    if s.len() <= at {
         return 0;
     }
-    let old = commands[at];
+    let old = s[at];
     let mut sum = 1;
     for x in (0..=255u8).rev() {
-        commands[at] = x;
-        sum = judge(upto(commands, n), text).folded(sum);
+        s[at] = x;
+        sum = verdict(s).folded(sum);
     }
-    commands[at] = old;
+    s[at] = old;
     sum
 }
 
-// The same of the text, which is the first n bytes.
-fn bad_text(commands: &[u8], text: &mut [u8], n: usize, at: usize) -> usize {
-    if text.len() <= at {
-        return 0;
-    }
-    let old = text[at];
-    let mut sum = 1;
-    for x in (0..=255u8).rev() {
-        text[at] = x;
-        sum = judge(commands, upto(text, n)).folded(sum);
-    }
-    text[at] = old;
-    sum
-}
-
-// Appends what a body says, how often and bytes, to the first n bytes, as far as there is room; how many there are then. Counted by hand, since the room may end within the bytes.
+// Appends what a body says, how often and bytes, to the first n bytes, as far as there is room; how many there are then. The place is counted
+// by hand: a zip with the room has to be begun again for each time, and is no plainer.
 fn grow(out: &mut [u8], n: usize, body: &[u8]) -> usize {
     let mut k = n;
     for _ in 0..word_at(body, 0) {
@@ -150,7 +141,7 @@ fn grow(out: &mut [u8], n: usize, body: &[u8]) -> usize {
 }
 
 // How the entries of a group fared, of how many books, and how many bytes of commands and of text the book has so far.
-#[derive(Clone, Copy)]
+#[derive(Clone, Copy, Default)]
 struct Progress {
     tally: Tally,
     books: u64,
@@ -183,23 +174,23 @@ fn is_judged(commands: &[u8], text: &[u8], body: &[u8]) -> bool {
     judge(commands, upto(text, triple_at(body, 3))) == listed(body)
 }
 
-// One entry. At a name what came of the group before is written, if there is one, then the name, and a new tally begins.
+// One entry, after those before it, if there are any. At a name what came of the group before is written, then the name, and a new tally begins.
 fn turn(
     rt: &(impl Print + Eprint),
-    before: Progress,
+    earlier: Option<Progress>,
     entry: &[u8],
-    is_first: bool,
     commands: &mut [u8],
     text: &mut [u8],
 ) -> Progress {
     let body = upto(from(entry, 3), word_at(entry, 1));
-    let Some(kind) = kind_of(byte_at(entry, 0)) else {
+    let before = earlier.unwrap_or_default();
+    let Ok(kind) = Kind::try_from(byte_at(entry, 0)) else {
         return before;
     };
     match kind {
         Kind::Group => {
-            if !is_first {
-                write_progress(rt, before);
+            if let Some(group) = earlier {
+                write_progress(rt, group);
             }
             say(rt, body);
             Progress {
@@ -224,12 +215,14 @@ fn turn(
         Kind::Verdict => before.with(is_judged(commands, text, body), 1),
         Kind::BadCommand => {
             let judged = upto(text, before.text);
-            let sum = bad_command(commands, before.commands, judged, word_at(body, 0));
+            let size = before.commands;
+            let sum = bad_sum(commands, word_at(body, 0), |s| judge(upto(s, size), judged));
             before.with(sum == long_at(body, 2), 256)
         }
         Kind::BadText => {
             let judged = upto(commands, before.commands);
-            let sum = bad_text(judged, text, before.text, word_at(body, 0));
+            let size = before.text;
+            let sum = bad_sum(text, word_at(body, 0), |s| judge(judged, upto(s, size)));
             before.with(sum == long_at(body, 2), 256)
         }
     }
@@ -242,22 +235,18 @@ fn replay(
     commands: &mut [u8],
     text: &mut [u8],
 ) -> Progress {
-    let mut progress = Progress {
-        tally: Tally::new(),
-        books: 0,
-        commands: 0,
-        text: 0,
-    };
+    let mut progress = None;
+    // An entry says its own length: the rest begins behind it.
     let mut rest = list;
     while !rest.is_empty() {
-        let is_first = rest.len() == list.len();
-        progress = turn(rt, progress, rest, is_first, commands, text);
+        progress = Some(turn(rt, progress, rest, commands, text));
         rest = from(rest, word_at(rest, 1) + 3);
     }
-    progress
+    progress.unwrap_or_default()
 }
 
 fn main(rt: HostRuntime) {
+    // Room of fixed length: no program takes memory from a heap.
     let mut list = [0u8; 524288];
     let mut commands = [0u8; 33000];
     let mut text = [0u8; 66000];
