@@ -7,15 +7,12 @@ ghost use Rattle.strings.specs.Scan.{tame_text};
 ghost use Rattle.patterns.specs.Patterns.{pattern_text, pattern_rule};
 ghost use Rattle.patterns.specs.Scan.{crowded, stars_apart};
 
-use names::has_config_dir;
+use names::strip_config_dir;
 use strings::lacks_brackets;
-use text::{SLASH, STAR, from};
+use text::{SLASH, STAR};
 
 // Below this length a text is looked at byte by byte where most bytes need but one test.
 const SHORT: usize = 48;
-
-// How many bytes `${configDir}` has.
-const CONFIG_DIR_LEN: usize = 12;
 
 // Whether a star between x and z has another beside it, and no slash. The slashes have a branch of their own: one expression of the four tests
 // takes a third more instructions on a short text of stars.
@@ -73,15 +70,10 @@ fn is_pattern_text(s: &[u8]) -> bool
 pub fn is_pattern(s: &[u8]) -> bool
     ensures { result ≡ pattern_rule s.now }
 {
-    let rest = if has_config_dir(s) {
-        from(s, CONFIG_DIR_LEN)
-    } else {
-        s
-    };
-    is_pattern_text(rest)
+    is_pattern_text(strip_config_dir(s).unwrap_or(s))
 }
 
-// The same for a part of a text that may be known to be tame: then it has no bracket, and so no `${configDir}`.
+// The same for a part of a text that may be known to be tame, a fact about that text: then it has no bracket, and so no `${configDir}`.
 pub fn is_pattern_of(tame: bool, s: &[u8]) -> bool
     requires { tame ≡ true → tame_text s.now ≡ true }
     ensures { result ≡ pattern_rule s.now }
