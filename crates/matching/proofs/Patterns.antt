@@ -1,41 +1,53 @@
 -- Laws of one pattern, and of an item that is built to be one. Assumes nothing.
 use mathlib.Core.Path.{◌≡◌, refl}
 use mathlib.Core.List.{[], ◌∷◌, ◌++◌}
-use mathlib.Core.Bool.{false, cond}
+use mathlib.Core.Bool.{Bool, false, not, ◌&&◌, ◌||◌, cond}
 use Prim.Native.Nat.{ℕ, suc, ◌+◌, ◌-◌, ◌≤◌, ◌<◌}
 use native.Mathlib.Omega.{arith}
-use lib.ListN.{length, get_or, length-append}
+use lib.ListN.{length, drop, length-append}
 use lib.Dec.{eqb}
+use Rattle.std.proofs.Common.{Option, Some, None, Bor, IsTrue}
+use Rattle.std.proofs.lemmas.Bool.Decides.{nat_tests}
+use Rattle.std.specs.Option.{MatchOption, option_copied}
+use Rattle.std.specs.Cmp.Lexicographic.{pointwise}
 use Rattle.text.specs.Bytes.{Text, bytes, slash}
 use Rattle.text.specs.Text.{some_of, prefix_of}
 use Rattle.text.proofs.Picks.{by_test, never}
-use Rattle.names.specs.Names.{config_dir}
+use Rattle.names.specs.Names.{config_dir, is_ts_extension, is_js_extension}
 use Rattle.emit.specs.declared.Output.{Output}
 use Rattle.emit.specs.Output.{text_of, Puts, Becomes}
 use Rattle.emit.proofs.Outputs.{puts_both, puts_first, becomes_text}
 use Rattle.ends.specs.Ends.{last_piece}
-use Rattle.tsconfig.specs.Claims.{ends, is_special, implied}
+use Rattle.tsconfig.specs.Claims.{allowed, outside, ends, is_special, implied}
 use Rattle.tsconfig.specs.Build.{adjusted}
 use Rattle.values.proofs.Lengths.{normalize_length, in_config_dir_length}
 
 -- The last byte
 
-pub ends_none : (b : ℕ) (s : Text) → length s ≡ 0 → false ≡ ends b s
+pub ends_is : (b : ℕ) (s : Text) → pointwise eqb (b ∷ []) (drop (length s - 1) s) ≡ ends b s
 unfolding ends
-ends_none b [] h = refl
-ends_none b (x ∷ s) h = never (omega arith)
-
-pub ends_some : (b : ℕ) (s : Text) → 0 < length s → eqb (get_or s (length s - 1) 0) b ≡ ends b s
-unfolding ends
-ends_some b [] h = never (omega arith)
-ends_some b (x ∷ []) h = refl
-ends_some b (x ∷ y ∷ s) h =
+ends_is b [] = refl
+ends_is b (x ∷ []) = grind (arith, nat_tests)
+ends_is b (x ∷ y ∷ s) =
     let k : suc (suc (length s)) - 1 ≡ suc (length s) = omega arith in
     let z : suc (length s) - 1 ≡ length s = omega arith in
-    rw k (rw z at (ends_some b (y ∷ s) (omega arith)))
+    rw k (rw z at (ends_is b (y ∷ s)))
 
--- as the code tells it
-pub ruleset lasts = (ends_none, ends_some)
+-- What is told of an extension, where there is one
+
+pub allowed_by :
+    (js : Bool) (o : Option (Bor Text)) (r : Bool) (P : Bor Text → Type 0) →
+    ((x : Bor Text) → P x → r ≡ (is_ts_extension x.now || (js && is_js_extension x.now))) → MatchOption o (r ≡ false) P → r ≡ allowed js (option_copied o)
+unfolding allowed
+allowed_by js None r P told h = h
+allowed_by js (Some x) r P told h = told x h
+
+pub outside_by :
+    (js : Bool) (o : Option (Bor Text)) (r : Bool) (P : Bor Text → Type 0) →
+    ((x : Bor Text) → P x → r ≡ (not js && is_js_extension x.now)) → MatchOption o (IsTrue r) P → r ≡ outside js (option_copied o)
+unfolding outside
+outside_by js None r P told h = h
+outside_by js (Some x) r P told h = told x h
 
 -- The implicit pattern
 

@@ -19,7 +19,8 @@ use path::same_path;
 use text::{DOT, QUESTION, SLASH, STAR, same_text};
 use values::adjust;
 
-// The length of a buffer that is long enough for most items, and of one that is for all.
+// The length of a buffer that is long enough for most items, and of one that is for all. A buffer is set to zero first: most items take a short
+// one (DECISIONS 6).
 const SHORT: usize = 256;
 
 const LONG: usize = 1100;
@@ -28,31 +29,21 @@ const LONG: usize = 1100;
 pub fn is_allowed(js: bool, path: &[u8]) -> bool
     ensures { result ≡ allowed js (extension path.now) }
 {
-    match extension(path) {
-        Some(own) => is_ts_extension(own) || js && is_js_extension(own),
-        None => false,
-    }
+    extension(path).is_some_and(|own| is_ts_extension(own) || js && is_js_extension(own))
 }
 
 // Whether the path is no program's input: it has no extension, or JavaScript's where that is not allowed.
 pub fn is_outside(js: bool, path: &[u8]) -> bool
     ensures { result ≡ outside js (extension path.now) }
 {
-    match extension(path) {
-        Some(own) => !js && is_js_extension(own),
-        None => true,
-    }
+    extension(path).is_none_or(|own| !js && is_js_extension(own))
 }
 
 // Whether the last byte of s is b.
-#[tactic(auto, using(crate::proofs::Patterns::lasts))]
 fn ends_with(s: &[u8], b: u8) -> bool
     ensures { result ≡ ends b s.now }
 {
-    match s {
-        [.., last] => *last == b,
-        [] => false,
-    }
+    s.ends_with(&[b])
 }
 
 fn is_special(b: u8) -> bool
@@ -115,7 +106,7 @@ fn is_item_matched_within<const N: usize>(js: bool, path: &[u8], dir: &[u8], s: 
     is_matched::<N>(js, path, adjust(dir, dir, s, &mut buffer))
 }
 
-// Whether an item of include or exclude, built in the directory, matches the path. Most need a short buffer only.
+// Whether an item of include or exclude, built in the directory, matches the path.
 pub fn is_item_matched(js: bool, path: &[u8], dir: &[u8], s: &[u8]) -> bool
     requires { (length dir.now ≤ 512) × (length s.now ≤ 512) }
     ensures { result ≡ matched js path.now (adjusted dir.now dir.now s.now) }
