@@ -15,6 +15,7 @@ use text::{DOT, SLASH};
 fn trim_start(s: &[u8]) -> &[u8]
     ensures { pieces result.now ≡ trim_start (split s.now) }
 {
+    // Cut until neither a slash nor a `.` leads: there are no pieces to go over.
     let mut t = s;
     loop {
         t = match t {

@@ -29,7 +29,7 @@ pub fn piece_kind(p: &[u8]) -> Piece
     }
 }
 
-// Whether a piece is no component: nothing, or `.`
+// Whether a piece is no component: nothing, or `.` Nothing calls it: it stays with its must-fail edit.
 pub fn is_skipped(p: &[u8]) -> bool
     ensures { result ≡ is_skip (piece_of p.now) }
 {

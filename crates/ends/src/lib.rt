@@ -10,7 +10,7 @@ use components::{lead_len, leads_dot};
 use text::{DOT, SLASH, find_last, from, upto};
 
 // Where the last piece of s begins.
-pub fn last_start(s: &[u8]) -> usize
+fn last_start(s: &[u8]) -> usize
     ensures { result ≡ length s.now - length (last_piece s.now) }
 {
     let Some(i) = find_last(s, SLASH) else {
@@ -31,6 +31,7 @@ pub fn last_piece(s: &[u8]) -> &[u8]
 pub fn trim_end(s: &[u8]) -> &[u8]
     ensures { result.now ≡ joined (trim_end (split s.now)) }
 {
+    // Cut until neither a slash nor a `.` ends it: there are no pieces to go over.
     let mut t = s;
     loop {
         t = match t {

@@ -24,7 +24,7 @@ pub fn wants_slash(s: &[u8]) -> bool
     }
 }
 
-// Writes a slash, where it is to stand apart, and then s.
+// Writes a slash, where it is to stand apart, and then s. A flag says which, since the path is borrowed while it is asked whether it wants a slash.
 fn put_joined(out: &mut Output, apart: bool, s: &[u8])
     requires { Room out.old.at (slash_if apart ++ s.now) }
     ensures { Puts (slash_if apart ++ s.now) out.old out.new }

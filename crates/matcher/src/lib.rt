@@ -25,6 +25,7 @@ fn glob(p: &[u8], s: &[u8]) -> Verdict
 fn after_star(p: &[u8], s: &[u8]) -> Verdict
     ensures { Sound result (after no_slash (glob_of p.now)) s.now }
 {
+    // The next try begins behind what the failure rules out.
     let mut left = s;
     loop {
         let here = &left[skip(p, left)..];
@@ -45,6 +46,7 @@ fn after_star(p: &[u8], s: &[u8]) -> Verdict
 fn after_stars(p: &[u8], s: &[u8]) -> Verdict
     ensures { Sound result (after_dirs (glob_of p.now)) s.now }
 {
+    // The next try begins behind the next slash: a piece alone is not what is tried.
     let mut here = s;
     loop {
         let v = glob(p, here);

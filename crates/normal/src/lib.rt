@@ -42,7 +42,8 @@ fn ends_in_names(s: &[u8]) -> bool
     true
 }
 
-// The same for a long path: each four bytes in a row are looked at by a loop that never leaves early, and then the last three.
+// The same for a long path: each four bytes in a row are looked at by a loop that never leaves early, so that it works on many at a time, and then
+// the last three.
 fn has_many_names(s: &[u8]) -> bool
     ensures { result ≡ names_behind s.now }
 {

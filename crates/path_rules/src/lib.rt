@@ -42,7 +42,7 @@ fn ends_free(x: u8, y: u8, z: u8) -> bool
 }
 
 // Whether none of the first sixteen places of s has one of `* ? #` or a slash with no name behind it: each four bytes in a row are looked at, by
-// a loop that never leaves early.
+// a loop that never leaves early, so that it works on many bytes at a time.
 fn is_block_free(s: &[u8]) -> bool
     requires { 19 ≤ length s.now }
     ensures { free_names s.now ≡ result && free_names (drop 16 s.now) }
@@ -80,14 +80,14 @@ fn is_bare_path(s: &[u8]) -> bool
     1 < s.len() && lacks(s, STAR, QUESTION, HASH) && is_normal(s)
 }
 
-// Whether s may be the path of a record.
+// Whether s may be the path of a record. Called by host/strings_bench alone, which measures it.
 pub fn is_record_path(s: &[u8]) -> bool
     ensures { result ≡ record_path s.now }
 {
     lacks_brackets(s) && is_bare_path(s)
 }
 
-// The same for a part of a text that may be known to be tame: then no bracket is looked for.
+// The same for a part of a text that may be known to be tame, a fact about that text: then no bracket is looked for.
 pub fn is_record_path_of(tame: bool, s: &[u8]) -> bool
     requires { tame ≡ true → tame_text s.now ≡ true }
     ensures { result ≡ record_path s.now }

@@ -32,7 +32,7 @@ const BRACE_BIT: u8 = 0x20;
 
 const BANG: u8 = b'!';
 
-// 1 where x and y are the same byte, else 0.
+// 1 where x and y are the same byte, else 0. Nothing calls it: it stays with its must-fail edit.
 pub fn same(x: u8, y: u8) -> u8
     ensures { result ≡ flag (eqb x y) }
 {
@@ -77,7 +77,7 @@ pub fn lacks_brackets(s: &[u8]) -> bool
     holds_of_each(s, is_bare_byte)
 }
 
-// Whether x is one of three bytes.
+// Whether x is one of three bytes, by tests side by side, for loops that never leave early.
 #[tactic(auto, unfolding(text::specs::Text::some_of))]
 pub fn one_of(x: u8, a: u8, b: u8, c: u8) -> bool
     ensures { result ≡ some_of (eqb x) (a ∷ b ∷ c ∷ []) }

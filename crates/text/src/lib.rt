@@ -12,7 +12,7 @@ pub const STAR: u8 = b'*';
 
 pub const QUESTION: u8 = b'?';
 
-// Whether p is a prefix of s. The last byte is looked at first: paths mostly begin alike.
+// Whether p is a prefix of s.
 pub fn starts_with(s: &[u8], p: &[u8]) -> bool
     ensures { result ≡ prefix_of p.now s.now }
 {
@@ -67,7 +67,7 @@ pub fn upto(s: &[u8], k: usize) -> &[u8]
     &s[..k]
 }
 
-// The bytes of s from a up to e, as far as s reaches.
+// The bytes of s from a up to e, as far as s reaches. Nothing calls it: it stays with its must-fail edit.
 pub fn between(s: &[u8], a: usize, e: usize) -> &[u8]
     ensures { result.now ≡ between a e s.now }
 {
