@@ -1,11 +1,12 @@
 -- What a line asks, and what is answered to a question.
-use Rattle.std.specs.Prelude.{◌≡◌, length, drop, Option, Some, None}
+use Rattle.std.specs.Prelude.{◌≡◌, length, drop, Option, Some, None, Result}
 use Rattle.text.specs.Bytes.{Text}
 use Rattle.text.specs.Text.{before_byte, after_byte}
 use Rattle.asked.specs.Asked.{tab, kind_of}
 use Rattle.asked.specs.declared.Kind.TheVariants as kind
-use Rattle.replies.specs.declared.Numbers.{Numbers}
-use Rattle.replies.specs.Replies.{returned, numbers_of, Told}
+use Rattle.book.specs.declared.Refusal.{Refusal}
+use Rattle.replies.specs.declared.Given.{Given}
+use Rattle.replies.specs.Replies.{returned, numbers_by, AnsweredAs}
 use Rattle.questions.specs.Questions.{tsconfig_build, tsconfig_owner, tsconfig_candidates, tsconfig_tries}
 use Rattle.asking.specs.declared.Question.{Question}
 use Rattle.asking.specs.declared.Question.TheVariants.{Build, Owner, Candidates, Tries}
@@ -25,9 +26,9 @@ Asks line (Some (Tries path directory specifier)) =
     (kind_of line ≡ Some kind.Tries) × ((path.now ≡ before_byte tab (fields_of line))
     × ((directory.now ≡ before_byte tab (after_byte tab (fields_of line))) × (specifier.now ≡ after_byte tab (after_byte tab (fields_of line)))))
 
--- the numbers returned and the lent output, before and after, are what comes of the question; an owner is told by numbers alone
-abbrev pub Answers : Question → Text → Text → Numbers → Text → Text → Type 0
-Answers (Build path) commands text r old new = Told (tsconfig_build commands text path.now (length old)) r old new
-Answers (Owner path) commands text r old new = (numbers_of r ≡ returned (tsconfig_owner commands text path.now)) × (new ≡ old)
-Answers (Candidates path specifier) commands text r old new = Told (tsconfig_candidates commands text path.now specifier.now (length old)) r old new
-Answers (Tries path directory specifier) commands text r old new = Told (tsconfig_tries commands text path.now directory.now specifier.now (length old)) r old new
+-- what is answered and the lent output, before and after, are what comes of the question; an owner lends none
+abbrev pub Answers : Question → Text → Text → Result Given Refusal → Text → Text → Type 0
+Answers (Build path) commands text r old new = AnsweredAs (tsconfig_build commands text path.now (length old)) r old new
+Answers (Owner path) commands text r old new = (numbers_by r ≡ returned (tsconfig_owner commands text path.now)) × (new ≡ old)
+Answers (Candidates path specifier) commands text r old new = AnsweredAs (tsconfig_candidates commands text path.now specifier.now (length old)) r old new
+Answers (Tries path directory specifier) commands text r old new = AnsweredAs (tsconfig_tries commands text path.now directory.now specifier.now (length old)) r old new

@@ -6,9 +6,10 @@ ghost use Rattle.std.specs.Prelude.{◌+◌, ◌<◌, ◌≤◌, length, IfSome}
 ghost use Rattle.asking.specs.Questions.{Asks, Answers};
 
 use asked::{Kind, fields, first_field, kind_of, other_fields};
+use book::Refusal;
 use lists::word_at;
-use questions::{tsconfig_build, tsconfig_candidates, tsconfig_owner, tsconfig_tries};
-use replies::Numbers;
+use questions::{NOBODY, build, candidates, owner, tries};
+use replies::Given;
 use std::io::Read;
 use std::rt::Files;
 use streams::{fail, read_file};
@@ -16,9 +17,6 @@ pub use streams::{say, say_number};
 use text::{find_byte, from, upto};
 
 const LINE_END: u8 = b'\n';
-
-// What owner answers for both configs where there is none.
-const NONE: u64 = 65535;
 
 // A question, with what it asks about.
 #[derive(Clone, Copy)]
@@ -56,17 +54,17 @@ pub struct Book<'a> {
 }
 
 // Asks a question about a book. What has an output writes it to the one that is lent.
-pub fn ask(question: Question, book: &Book, out: &mut [u8]) -> Numbers
+pub fn ask(question: Question, book: &Book, out: &mut [u8]) -> Result<Given, Refusal>
     ensures { Answers question.entry book.now.commands.now book.now.text.now result out.old out.new }
 {
     match question {
-        Question::Build(path) => tsconfig_build(book.commands, book.text, path, out),
-        Question::Owner(path) => tsconfig_owner(book.commands, book.text, path),
+        Question::Build(path) => build(book.commands, book.text, path, out),
+        Question::Owner(path) => owner(book.commands, book.text, path),
         Question::Candidates(path, specifier) => {
-            tsconfig_candidates(book.commands, book.text, path, specifier, out)
+            candidates(book.commands, book.text, path, specifier, out)
         }
         Question::Tries(path, directory, specifier) => {
-            tsconfig_tries(book.commands, book.text, path, directory, specifier, out)
+            tries(book.commands, book.text, path, directory, specifier, out)
         }
     }
 }
@@ -78,17 +76,17 @@ fn say_line(rt: &(impl Print + Eprint), s: &[u8]) {
 }
 
 // Writes a line of a word and two numbers.
-fn say_two(rt: &(impl Print + Eprint), name: &[u8], a: u64, b: u64) {
+fn say_two(rt: &(impl Print + Eprint), name: &[u8], a: usize, b: usize) {
     say(rt, name);
-    say_number(rt, a);
-    say_number(rt, b);
+    say_number(rt, a as u64);
+    say_number(rt, b as u64);
     say(rt, b"\n");
 }
 
 // Writes the paths of a list, one a line, under a word and their number. Each is a length of two bytes, low first, and its bytes.
-fn say_list(rt: &(impl Print + Eprint), name: &[u8], count: u64, list: &[u8]) {
+fn say_list(rt: &(impl Print + Eprint), name: &[u8], count: usize, list: &[u8]) {
     say(rt, name);
-    say_number(rt, count);
+    say_number(rt, count as u64);
     say(rt, b"\n");
     // A path says its own length: the rest begins behind it.
     let mut rest = list;
@@ -96,6 +94,20 @@ fn say_list(rt: &(impl Print + Eprint), name: &[u8], count: u64, list: &[u8]) {
         let size = word_at(rest, 0);
         say_line(rt, upto(from(rest, 2), size));
         rest = from(rest, size + 2);
+    }
+}
+
+// Writes what is given in answer to a question, with the bytes that were written.
+fn say_answer(rt: &(impl Print + Eprint), question: Question, given: Given, bytes: &[u8]) {
+    match question {
+        Question::Build(_) => {
+            say_two(rt, b"built", given.first, given.second);
+            say(rt, bytes);
+        }
+        Question::Owner(_) if given.first == NOBODY => say_line(rt, b"owner none"),
+        Question::Owner(_) => say_two(rt, b"owner", given.first, given.second),
+        Question::Candidates(_, _) => say_list(rt, b"candidates", given.first, bytes),
+        Question::Tries(_, _, _) => say_list(rt, b"tries", given.first, bytes),
     }
 }
 
@@ -108,21 +120,12 @@ fn answer(rt: &(impl Print + Eprint), book: &Book, line: &[u8], out: &mut [u8]) 
         );
         return;
     };
-    let numbers = ask(question, book, out);
-    if numbers.number != 0 {
-        say_two(rt, b"refused", numbers.number, numbers.place);
-        return;
-    }
-    let bytes = upto(out, numbers.bytes as usize);
-    match question {
-        Question::Build(_) => {
-            say_two(rt, b"built", numbers.first, numbers.second);
-            say(rt, bytes);
+    match ask(question, book, out) {
+        Ok(given) => say_answer(rt, question, given, upto(out, given.bytes)),
+        Err(refusal) => {
+            let number = refusal.fault.number() as usize;
+            say_two(rt, b"refused", number, refusal.place);
         }
-        Question::Owner(_) if numbers.first == NONE => say_line(rt, b"owner none"),
-        Question::Owner(_) => say_two(rt, b"owner", numbers.first, numbers.second),
-        Question::Candidates(_, _) => say_list(rt, b"candidates", numbers.first, bytes),
-        Question::Tries(_, _, _) => say_list(rt, b"tries", numbers.first, bytes),
     }
 }
 

@@ -5,12 +5,13 @@ ghost use Rattle.std.specs.Prelude.{◌≤◌, length, option_copied, IfSome};
 ghost use Rattle.sites.specs.Sites.{settings_in};
 ghost use Rattle.mapping.specs.Asks.{Asks};
 ghost use Rattle.targets.specs.Targets.{Lists};
-ghost use Rattle.replies.specs.Replies.{listed, Told};
+ghost use Rattle.replies.specs.Replies.{listed, AnsweredAs};
 ghost use Rattle.paths_reply.specs.Paths.{paths_by};
 
+use book::Refusal;
 use emit::Output;
 use mapping::put_candidates;
-use replies::{Numbers, write_reply};
+use replies::{Given, write_reply};
 use sites::Built;
 use tries::put_tries;
 
@@ -34,10 +35,10 @@ pub fn write_paths(
     specifier: &[u8],
     scratch: &mut [u8],
     out: &mut [u8],
-) -> Numbers
+) -> Result<Given, Refusal>
     requires asks { Asks specifier.now 0 }
     requires directory { IfSome directory (λ d. length d.now ≤ 512) }
-    ensures { Told (listed (length out.old) (paths_by (option_copied directory.entry) specifier.now (settings_in built.now.config))) result out.old out.new }
+    ensures { AnsweredAs (listed (length out.old) (paths_by (option_copied directory.entry) specifier.now (settings_in built.now.config))) result out.old out.new }
 {
     write_reply(scratch, out, |output| {
         (put_paths(output, directory, built, specifier), 0)

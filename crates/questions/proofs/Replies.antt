@@ -29,15 +29,14 @@ use Rattle.rows.specs.Records.{records_of}
 use Rattle.rows.specs.Rows.{site_of}
 use Rattle.rows.specs.Checked.{records_in}
 use Rattle.rows.specs.declared.CheckedBook.{CheckedBook}
-use Rattle.replies.specs.Replies.{Outcome, returned, numbers_of, fit, listed, Told}
-use Rattle.replies.specs.declared.Numbers.{Numbers}
-use Rattle.replies.proofs.Replies.{told_refused}
+use Rattle.replies.specs.Replies.{Outcome, returned, numbers_given, fit, listed}
+use Rattle.replies.specs.declared.Given.{Given}
 use Rattle.build_reply.specs.Reply.{build_reply}
 use Rattle.paths_reply.specs.Paths.{paths_by}
 use Rattle.owner.specs.Owned.{answered}
 use Rattle.owner.specs.declared.Owner.{Owner}
 use Rattle.questions.specs.Questions.{asked, book, build, candidates_of, tries_of, owner, owner_reply, tsconfig_build, tsconfig_owner, tsconfig_candidates, tsconfig_tries}
-use Rattle.questions.specs.Replies.{asked_for, asked_load, tsconfig_paths, numbers_by, Ready, LoadsAs, ToldBy, OwnerAs}
+use Rattle.questions.specs.Replies.{asked_for, asked_load, tsconfig_paths, Ready, LoadsAs}
 use Rattle.references.specs.References.{WholeAs}
 use Rattle.references.specs.declared.Project.{Project as Loaded}
 
@@ -175,20 +174,10 @@ module _ (commands text path : Text) where
       pub owner_refuses : (x : Refusal) → r ≡ Err x → tsconfig_owner commands text path ≡ refusal x
       owner_refuses x g = found ∙ rw g refl
 
-      pub owner_nobody : r ≡ Ok None → (n : Numbers) → numbers_of n ≡ 0 ∷ 0 ∷ 65535 ∷ 65535 ∷ 0 ∷ [] → numbers_of n ≡ returned (tsconfig_owner commands text path)
+      pub owner_nobody : r ≡ Ok None → (n : Given) → numbers_given n ≡ 0 ∷ 0 ∷ 65535 ∷ 65535 ∷ 0 ∷ [] → numbers_given n ≡ returned (tsconfig_owner commands text path)
       unfolding owner_reply returned
       owner_nobody g n a = a ∙ sym (ap returned (found ∙ ap (λ (q : Result (Option Owner) Refusal). answered q (given None) >>= owner_reply) g))
 
-      pub owner_found : (o : Owner) → r ≡ Ok (Some o) → (n : Numbers) → numbers_of n ≡ 0 ∷ 0 ∷ o.found ∷ o.solution ∷ 0 ∷ [] → numbers_of n ≡ returned (tsconfig_owner commands text path)
+      pub owner_found : (o : Owner) → r ≡ Ok (Some o) → (n : Given) → numbers_given n ≡ 0 ∷ 0 ∷ o.found ∷ o.solution ∷ 0 ∷ [] → numbers_given n ≡ returned (tsconfig_owner commands text path)
       unfolding owner_reply returned
       owner_found o g n a = a ∙ sym (ap returned (found ∙ ap (λ (q : Result (Option Owner) Refusal). answered q (given None) >>= owner_reply) g))
-
--- The numbers of an answer
-
-pub told_by : (o : Outcome) (old new : Text) (r : Result Numbers Refusal) → ToldBy o old new r → (n : Numbers) → numbers_of n ≡ numbers_by r → Told o n old new
-told_by o old new (Err r) w n e = told_refused o n old new (number_of r.fault) r.place w.0 e w.1
-told_by o old new (Ok m) w n e = record { numbers = e ∙ w.numbers; bytes = w.bytes }
-
-pub owner_by : (o : Outcome) (r : Result Numbers Refusal) → OwnerAs o r → (n : Numbers) → numbers_of n ≡ numbers_by r → numbers_of n ≡ returned o
-owner_by o (Err r) w n e = e ∙ sym (ap returned w)
-owner_by o (Ok m) w n e = e ∙ w

@@ -13,8 +13,7 @@ use Rattle.rows.specs.Rows.{Row, site_of}
 use Rattle.tsconfig.specs.Parsed.{Parsed}
 use Rattle.tsconfig.specs.Claims.{Site}
 use Rattle.tsconfig_resolver.specs.Project.{Project, load_path}
-use Rattle.replies.specs.Replies.{Outcome, returned, numbers_of, Told}
-use Rattle.replies.specs.declared.Numbers.{Numbers}
+use Rattle.replies.specs.Replies.{Outcome}
 use Rattle.references.specs.declared.Project.{Project as Loaded}
 use Rattle.questions.specs.Questions.{book, tsconfig_candidates, tsconfig_tries}
 
@@ -33,16 +32,6 @@ abbrev pub tsconfig_paths : Text → Text → Text → Option Text → Text → 
 tsconfig_paths commands text path None specifier room = tsconfig_candidates commands text path specifier room
 tsconfig_paths commands text path (Some directory) specifier room = tsconfig_tries commands text path directory specifier room
 
--- the numbers of an answer, or of its refusal
-abbrev pub numbers_by : Result Numbers Refusal → List ℕ
-numbers_by (Ok n) = numbers_of n
-numbers_by (Err r) = returned (refusal r)
-
--- what is told of an outcome by an answer and by the output before and after: a refusal leaves that as it was
-abbrev pub ToldBy : Outcome → Text → Text → Result Numbers Refusal → Type 0
-ToldBy o old new (Err r) = (o ≡ refusal r) × (new ≡ old)
-ToldBy o old new (Ok n) = Told o n old new
-
 -- the load that is asked for, where it may be asked for
 abbrev pub asked_load : Bool → List Parsed → Text → Answer Project
 asked_load ok rs path = cond ok (load_path rs path) (refused 7 0)
@@ -57,8 +46,3 @@ pub record Ready (rs : List Parsed) (a : Answer Project) (l : Loaded) : Type 0 w
 abbrev pub LoadsAs : List Parsed → Answer Project → Result Loaded Refusal → Type 0
 LoadsAs rs a (Err r) = a ≡ refusal r
 LoadsAs rs a (Ok l) = Ready rs a l
-
--- what is told of an owner
-abbrev pub OwnerAs : Outcome → Result Numbers Refusal → Type 0
-OwnerAs o (Err r) = o ≡ refusal r
-OwnerAs o (Ok n) = numbers_of n ≡ returned o

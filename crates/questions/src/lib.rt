@@ -1,13 +1,13 @@
-// The questions, on numbers and byte slices. `questions_c` has them as C functions.
+// The questions, on byte slices. `questions_c` has them as C functions.
 #![tactic(auto)]
 
 ghost use Rattle.std.specs.Prelude.{◌≡◌, length, option_copied};
 ghost use Rattle.rows.specs.Checked.{records_in};
-ghost use Rattle.replies.specs.Replies.{returned, numbers_of, Told};
+ghost use Rattle.replies.specs.Replies.{returned, numbers_by, AnsweredAs};
 ghost use Rattle.questions.specs.Questions.{tsconfig_build, tsconfig_owner, tsconfig_candidates, tsconfig_tries};
-ghost use Rattle.questions.specs.Replies.{asked_for, asked_load, tsconfig_paths, numbers_by, Checks, LoadsAs, ToldBy, OwnerAs};
+ghost use Rattle.questions.specs.Replies.{asked_for, asked_load, tsconfig_paths, Checks, LoadsAs};
 
-use book::{Fault, IndexRow, Refusal};
+use book::{Fault, IndexRow, MOST_RECORDS, Refusal};
 use build_reply::write_listing;
 use checker::check_book;
 use owner::find_owner;
@@ -15,19 +15,19 @@ use path_rules::is_asked_path;
 use paths_reply::write_paths;
 use records::PathTable;
 use references::{Project, load_record};
-use replies::{Numbers, give, refuse};
+use replies::{Given, give};
 use rows::CheckedBook;
 use sites::{Built, Config};
 use strings::is_string;
 
 // What stands for no record.
-const NOBODY: usize = 65535;
+pub const NOBODY: usize = 65535;
 
 // The book, which is checked first: the check fills the index.
 fn open_book<'a>(
     commands: &'a [u8],
     text: &'a [u8],
-    index: &'a mut [IndexRow; 64],
+    index: &'a mut [IndexRow; MOST_RECORDS],
 ) -> Result<CheckedBook<'a>, Refusal>
     ensures { Checks commands.now text.now result }
 {
@@ -69,34 +69,17 @@ fn load_asked(book: &CheckedBook<'_>, ok: bool, path: &[u8]) -> Result<Project, 
     load_record(book, c)
 }
 
-// The numbers of an answer, or of its refusal.
-fn numbers(answer: Result<Numbers, Refusal>) -> Numbers
-    ensures { numbers_of result ≡ numbers_by answer }
+// B: the config that a path means, merged with what it extends and built, as lines; its record and the merges made.
+pub fn build(commands: &[u8], text: &[u8], path: &[u8], out: &mut [u8]) -> Result<Given, Refusal>
+    ensures { AnsweredAs (tsconfig_build commands.now text.now path.now (length out.old)) result out.old out.new }
 {
-    match answer {
-        Ok(given) => given,
-        Err(reason) => refuse(reason),
-    }
-}
-
-// The answer to B.
-fn build(commands: &[u8], text: &[u8], path: &[u8], out: &mut [u8]) -> Result<Numbers, Refusal>
-    ensures { ToldBy (tsconfig_build commands.now text.now path.now (length out.old)) out.old out.new result }
-{
-    let mut index = [IndexRow::NONE; 64];
+    let mut index = [IndexRow::NONE; MOST_RECORDS];
     let book = open_book(commands, text, &mut index)?;
     let Project { row, merges, .. } = load_asked(&book, is_asked_path(path), path)?;
     let mut buffer = [0u8; 1600];
     let built = Built::new(Config::new(&book, &row), &mut buffer);
     let mut scratch = [0u8; 4096];
-    Ok(write_listing(&built, merges, &mut scratch, out))
-}
-
-// B: the config that a path means, merged with what it extends and built, as lines; its record and the merges made.
-pub fn tsconfig_build(commands: &[u8], text: &[u8], path: &[u8], out: &mut [u8]) -> Numbers
-    ensures { Told (tsconfig_build commands.now text.now path.now (length out.old)) result out.old out.new }
-{
-    numbers(build(commands, text, path, out))
+    write_listing(&built, merges, &mut scratch, out)
 }
 
 // The answer to C, or to T where a directory is given.
@@ -107,50 +90,50 @@ fn paths(
     directory: Option<&[u8]>,
     specifier: &[u8],
     out: &mut [u8],
-) -> Result<Numbers, Refusal>
-    ensures { ToldBy (tsconfig_paths commands.now text.now path.now (option_copied directory.entry) specifier.now (length out.old)) out.old out.new result }
+) -> Result<Given, Refusal>
+    ensures { AnsweredAs (tsconfig_paths commands.now text.now path.now (option_copied directory.entry) specifier.now (length out.old)) result out.old out.new }
 {
-    let mut index = [IndexRow::NONE; 64];
+    let mut index = [IndexRow::NONE; MOST_RECORDS];
     let book = open_book(commands, text, &mut index)?;
     let Project { row, .. } = load_asked(&book, is_asked(path, directory, specifier), path)?;
     let mut buffer = [0u8; 1600];
     let built = Built::new(Config::new(&book, &row), &mut buffer);
     let mut scratch = [0u8; 1024];
-    Ok(write_paths(directory, &built, specifier, &mut scratch, out))
+    write_paths(directory, &built, specifier, &mut scratch, out)
 }
 
 // C: the paths that a specifier is mapped to by the config that a path means, each a length in two bytes and its bytes; how many there are.
-pub fn tsconfig_candidates(
+pub fn candidates(
     commands: &[u8],
     text: &[u8],
     path: &[u8],
     specifier: &[u8],
     out: &mut [u8],
-) -> Numbers
-    ensures { Told (tsconfig_candidates commands.now text.now path.now specifier.now (length out.old)) result out.old out.new }
+) -> Result<Given, Refusal>
+    ensures { AnsweredAs (tsconfig_candidates commands.now text.now path.now specifier.now (length out.old)) result out.old out.new }
 {
-    numbers(paths(commands, text, path, None, specifier, out))
+    paths(commands, text, path, None, specifier, out)
 }
 
 // T: the paths that would be tried for a specifier from a directory, in the layout of candidates; how many there are.
-pub fn tsconfig_tries(
+pub fn tries(
     commands: &[u8],
     text: &[u8],
     path: &[u8],
     directory: &[u8],
     specifier: &[u8],
     out: &mut [u8],
-) -> Numbers
-    ensures { Told (tsconfig_tries commands.now text.now path.now directory.now specifier.now (length out.old)) result out.old out.new }
+) -> Result<Given, Refusal>
+    ensures { AnsweredAs (tsconfig_tries commands.now text.now path.now directory.now specifier.now (length out.old)) result out.old out.new }
 {
-    numbers(paths(commands, text, path, Some(directory), specifier, out))
+    paths(commands, text, path, Some(directory), specifier, out)
 }
 
-// The answer to O.
-fn owner(commands: &[u8], text: &[u8], path: &[u8]) -> Result<Numbers, Refusal>
-    ensures { OwnerAs (tsconfig_owner commands.now text.now path.now) result }
+// O: the config that owns a file, and its solution: 65,535 twice where there is none.
+pub fn owner(commands: &[u8], text: &[u8], path: &[u8]) -> Result<Given, Refusal>
+    ensures { numbers_by result ≡ returned (tsconfig_owner commands.now text.now path.now) }
 {
-    let mut index = [IndexRow::NONE; 64];
+    let mut index = [IndexRow::NONE; MOST_RECORDS];
     let book = open_book(commands, text, &mut index)?;
     if !is_asked_path(path) {
         return Err(Refusal {
@@ -162,11 +145,4 @@ fn owner(commands: &[u8], text: &[u8], path: &[u8]) -> Result<Numbers, Refusal>
         Some(owner) => Ok(give(owner.found, owner.solution)),
         None => Ok(give(NOBODY, NOBODY)),
     }
-}
-
-// O: the config that owns a file, and its solution: 65,535 twice where there is none.
-pub fn tsconfig_owner(commands: &[u8], text: &[u8], path: &[u8]) -> Numbers
-    ensures { numbers_of result ≡ returned (tsconfig_owner commands.now text.now path.now) }
-{
-    numbers(owner(commands, text, path))
 }

@@ -1,4 +1,4 @@
-// The questions, as C functions on numbers and byte slices: each is the function of that name in `questions`, with its contract.
+// The questions, as C functions on numbers and byte slices: each gives the numbers of what `questions` answers.
 #![tactic(auto)]
 
 ghost use Rattle.std.specs.Prelude.{◌≡◌, length};
@@ -17,7 +17,7 @@ pub extern "C" fn tsconfig_build(
 ) -> Numbers
     ensures { Told (tsconfig_build commands.now text.now path.now (length out.old)) result out.old out.new }
 {
-    questions::tsconfig_build(commands, text, path, out)
+    Numbers::from(questions::build(commands, text, path, out))
 }
 
 // C: the paths that a specifier is mapped to by the config that a path means, each a length in two bytes and its bytes; how many there are.
@@ -31,7 +31,7 @@ pub extern "C" fn tsconfig_candidates(
 ) -> Numbers
     ensures { Told (tsconfig_candidates commands.now text.now path.now specifier.now (length out.old)) result out.old out.new }
 {
-    questions::tsconfig_candidates(commands, text, path, specifier, out)
+    Numbers::from(questions::candidates(commands, text, path, specifier, out))
 }
 
 // T: the paths that would be tried for a specifier from a directory, in the layout of candidates; how many there are.
@@ -46,7 +46,7 @@ pub extern "C" fn tsconfig_tries(
 ) -> Numbers
     ensures { Told (tsconfig_tries commands.now text.now path.now directory.now specifier.now (length out.old)) result out.old out.new }
 {
-    questions::tsconfig_tries(commands, text, path, directory, specifier, out)
+    Numbers::from(questions::tries(commands, text, path, directory, specifier, out))
 }
 
 // O: the config that owns a file, and its solution: 65,535 twice where there is none.
@@ -54,5 +54,5 @@ pub extern "C" fn tsconfig_tries(
 pub extern "C" fn tsconfig_owner(commands: &[u8], text: &[u8], path: &[u8]) -> Numbers
     ensures { numbers_of result ≡ returned (tsconfig_owner commands.now text.now path.now) }
 {
-    questions::tsconfig_owner(commands, text, path)
+    Numbers::from(questions::owner(commands, text, path))
 }

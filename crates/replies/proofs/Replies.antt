@@ -10,17 +10,21 @@ use Rattle.emit.specs.Emit.{Emits}
 use Rattle.emit.specs.Output.{Puts}
 use Rattle.emit.specs.declared.Output.{Output}
 use Rattle.emit.proofs.Emits.{written_whole, emits_length, emits_holds}
+use Rattle.std.specs.Prelude.{Result, Ok, Err}
 use Rattle.book.specs.Answer.{refused, given}
-use Rattle.replies.specs.Replies.{Outcome, Reply, fit, returned, output, numbers_of, Told}
+use Rattle.book.specs.Refusals.{refusal}
+use Rattle.book.specs.declared.Refusal.{Refusal}
+use Rattle.replies.specs.Replies.{Outcome, Reply, fit, returned, output, numbers_of, numbers_by, AnsweredAs, Told}
 use Rattle.tsconfig.specs.Laid.{laid}
+use Rattle.replies.specs.declared.Given.{Given}
 use Rattle.replies.specs.declared.Numbers.{Numbers}
 
 -- A refusal
 
--- output kept, and the numbers of a refusal
-pub told_refused : (o : Outcome) (r : Numbers) (old new : Text) (k p : ℕ) → o ≡ refused k p → numbers_of r ≡ returned (refused k p) → new ≡ old → Told o r old new
+-- the output as it was
+pub answered_refused : (o : Outcome) (r : Refusal) (old : Text) → o ≡ refusal r → AnsweredAs o (Err r) old old
 unfolding output
-told_refused o r old new k p e n u = record { numbers = n ∙ sym (ap returned e); bytes = u ∙ sym (ap (λ (x : Outcome). output x old) e) }
+answered_refused o r old e = record { numbers = sym (ap returned e); bytes = sym (ap (λ (x : Outcome). output x old) e) }
 
 -- What is written to output of which nothing was written
 
@@ -51,12 +55,12 @@ module _ (reply : Reply) (old : Text) (k : ℕ) (none_in none_out : Text) (count
     unfolding fit
     fit_given = rw (le-ltb (length old) (length reply.bytes) (omega (arith, h, counts))) refl
 
-    pub told_given : (r : Numbers) (first second : ℕ) → numbers_of r ≡ 0 ∷ 0 ∷ first ∷ second ∷ n ∷ [] → first ≡ reply.first → second ≡ reply.second → Told (fit (length old) reply) r old new
+    pub answered_given : (g : Given) → g.first ≡ reply.first → g.second ≡ reply.second → g.bytes ≡ n → AnsweredAs (fit (length old) reply) (Ok g) old new
     unfolding returned output
-    told_given r first second e a b =
-        let z : n ≡ length reply.bytes = omega (arith, wrote.next) in
+    answered_given g a b e =
+        let z : g.bytes ≡ length reply.bytes = omega (arith, e, wrote.next) in
         record {
-          numbers = e ∙ rw (a, b, z, fit_given) refl;
+          numbers = rw (a, b, z, fit_given) refl;
           bytes = wrote.text ∙ written_whole reply.bytes old (omega (arith, h, counts)) ∙ sym (ap (λ (x : Outcome). output x old) fit_given);
         }
 
@@ -64,9 +68,9 @@ module _ (reply : Reply) (old : Text) (k : ℕ) (none_in none_out : Text) (count
 abbrev pub listed_reply : List Text → Reply
 listed_reply ts = record { first = length ts; second = 0; bytes = laid ts }
 
-pub told_as : (a b : Outcome) (r : Numbers) (old new : Text) → a ≡ b → Told b r old new → Told a r old new
-told_as a b r old new e t = record { numbers = t.numbers ∙ sym (ap returned e); bytes = t.bytes ∙ sym (ap (λ (x : Outcome). output x old) e) }
+pub answered_as : (a b : Outcome) (r : Result Given Refusal) (old new : Text) → a ≡ b → AnsweredAs b r old new → AnsweredAs a r old new
+answered_as a b r old new e t = record { numbers = t.numbers ∙ sym (ap returned e); bytes = t.bytes ∙ sym (ap (λ (x : Outcome). output x old) e) }
 
--- the output as it was
-pub kept_told : (o : Outcome) (r : Numbers) (old : Text) (k p : ℕ) → o ≡ refused k p → numbers_of r ≡ returned (refused k p) → Told o r old old
-kept_told o r old k p e n = told_refused o r old old k p e n refl
+-- what C is handed
+pub told_by : (o : Outcome) (r : Result Given Refusal) (old new : Text) (n : Numbers) → AnsweredAs o r old new → numbers_of n ≡ numbers_by r → Told o n old new
+told_by o r old new n t e = record { numbers = e ∙ t.numbers; bytes = t.bytes }

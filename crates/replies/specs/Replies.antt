@@ -1,12 +1,16 @@
 -- What is answered: the outcome of a question, the numbers returned and the output.
 use Rattle.std.specs.Prelude.{List, [], ◌∷◌, ◌++◌, cond, ℕ, ltb, length, drop, ◌≡◌}
+use Rattle.std.specs.Prelude.{Result, Ok, Err}
 use Rattle.std.specs.Borrow.{MutBor}
 use Rattle.text.specs.Bytes.{Text}
 use Rattle.emit.specs.Output.{Puts}
 use Rattle.emit.specs.declared.Output.{Output}
 use Rattle.book.specs.Answer.{Answer, refused, given}
+use Rattle.book.specs.Refusals.{refusal}
+use Rattle.book.specs.declared.Refusal.{Refusal}
 use Rattle.tsconfig.specs.Laid.{laid}
 use Rattle.replies.specs.declared.Numbers.{Numbers}
+use Rattle.replies.specs.declared.Given.{Given}
 
 -- what is answered: two numbers, and the bytes written
 pub record Reply : Type 0 where
@@ -43,6 +47,20 @@ output (given r) old = r.bytes ++ drop (length r.bytes) old
 -- the returned struct as 01's numbers
 abbrev pub numbers_of : Numbers → List ℕ
 numbers_of r = r.number ∷ r.place ∷ r.first ∷ r.second ∷ r.bytes ∷ []
+
+-- what is given, as 01's numbers: no refusal, the two numbers, the bytes written
+abbrev pub numbers_given : Given → List ℕ
+numbers_given g = 0 ∷ 0 ∷ g.first ∷ g.second ∷ g.bytes ∷ []
+
+-- the numbers of an answer, or of its refusal
+abbrev pub numbers_by : Result Given Refusal → List ℕ
+numbers_by (Ok g) = numbers_given g
+numbers_by (Err r) = returned (refusal r)
+
+-- an answer and the lent output, before and after, are the outcome's
+pub record AnsweredAs (o : Outcome) (r : Result Given Refusal) (old new : Text) : Type 0 where
+  pub numbers : numbers_by r ≡ returned o
+  pub bytes : new ≡ output o old
 
 -- the numbers returned and the lent output, before and after, are the outcome's
 pub record Told (o : Outcome) (r : Numbers) (old new : Text) : Type 0 where

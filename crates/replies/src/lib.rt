@@ -3,15 +3,33 @@
 
 ghost use Rattle.std.specs.Prelude.{◌≡◌, [], ◌∷◌, length};
 ghost use Rattle.emit.specs.Emit.{Emits};
-ghost use Rattle.book.specs.Refusals.{refusal};
-ghost use Rattle.replies.specs.Replies.{Reply, fit, returned, numbers_of, Told, Writes};
+ghost use Rattle.replies.specs.Replies.{Reply, fit, numbers_of, numbers_given, numbers_by, AnsweredAs, Writes};
 
 use book::{Fault, Refusal};
 use emit::Output;
 
-// The refusal's number and place, or 0 and 0 with the answer's two numbers and the bytes written.
+// What is given in answer: two numbers, and how many bytes were written.
+#[derive(Clone, Copy, PartialEq, Eq)]
+pub struct Given {
+    pub first: usize,
+    pub second: usize,
+    pub bytes: usize,
+}
+
+// An answer without output.
+pub fn give(first: usize, second: usize) -> Given
+    ensures { numbers_given result ≡ 0 ∷ 0 ∷ first ∷ second ∷ 0 ∷ [] }
+{
+    Given {
+        first,
+        second,
+        bytes: 0,
+    }
+}
+
+// An answer as C is handed it, which takes no enum: the refusal's number and place, or 0 and 0 with the answer's two numbers and the bytes written.
 #[repr(C)]
-#[derive(Clone, Copy)]
+#[derive(Clone, Copy, PartialEq, Eq, Default)]
 pub struct Numbers {
     pub number: u64,
     pub place: u64,
@@ -20,36 +38,24 @@ pub struct Numbers {
     pub bytes: u64,
 }
 
-#[tactic(auto, unfolding(crate::specs::Replies::returned))]
-pub fn refuse(reason: Refusal) -> Numbers
-    ensures { numbers_of result ≡ returned (refusal reason) }
-{
-    Numbers {
-        number: u64::from(reason.fault.number()),
-        place: reason.place as u64,
-        first: 0,
-        second: 0,
-        bytes: 0,
-    }
-}
+impl From<Result<Given, Refusal>> for Numbers {
+    ghost from_gives = { λ answer n. numbers_of n ≡ numbers_by answer };
 
-// An answer without output.
-pub fn give(first: usize, second: usize) -> Numbers
-    ensures { numbers_of result ≡ 0 ∷ 0 ∷ first ∷ second ∷ 0 ∷ [] }
-{
-    reply(first, second, 0)
-}
-
-// An answer with its output.
-pub fn reply(first: usize, second: usize, bytes: usize) -> Numbers
-    ensures { numbers_of result ≡ 0 ∷ 0 ∷ first ∷ second ∷ bytes ∷ [] }
-{
-    Numbers {
-        number: 0,
-        place: 0,
-        first: first as u64,
-        second: second as u64,
-        bytes: bytes as u64,
+    fn from(answer: Result<Given, Refusal>) -> Numbers {
+        match answer {
+            Ok(given) => Numbers {
+                number: 0,
+                place: 0,
+                first: given.first as u64,
+                second: given.second as u64,
+                bytes: given.bytes as u64,
+            },
+            Err(reason) => Numbers {
+                number: u64::from(reason.fault.number()),
+                place: reason.place as u64,
+                ..Numbers::default()
+            },
+        }
     }
 }
 
@@ -68,24 +74,33 @@ pub fn write_reply<F: Fn(&mut Output) -> (usize, usize)>(
     scratch: &mut [u8],
     out: &mut [u8],
     write: F,
-) -> Numbers
+) -> Result<Given, Refusal>
     requires { (o : _) → o.now.at ≡ 0 → F.pre write o }
-    ensures { (answer : Reply) → Writes (F.post write) answer → Told (fit (length out.old) answer) result out.old out.new }
+    ensures { (answer : Reply) → Writes (F.post write) answer → AnsweredAs (fit (length out.old) answer) result out.old out.new }
 {
     let mut counted = Output::new(scratch);
     let (first, second) = write(&mut counted);
     let need = counted.at;
     if out.len() < need {
-        return refuse(Refusal {
+        return Err(Refusal {
             fault: Fault::NoRoom,
             place: need,
         });
     }
     if need <= counted.bytes.len() {
         let bytes = copy_out(counted.text(), out);
-        return reply(first, second, bytes);
+        return Ok(Given {
+            first,
+            second,
+            bytes,
+        });
     }
     let mut answer = Output::new(out);
     let (first, second) = write(&mut answer);
-    reply(first, second, answer.at)
+    let bytes = answer.at;
+    Ok(Given {
+        first,
+        second,
+        bytes,
+    })
 }

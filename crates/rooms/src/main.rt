@@ -7,13 +7,11 @@ ghost use Rattle.std.specs.Prelude.{◌<◌, ◌≤◌, length};
 
 use asked::{fields, fill, first_field, is_kept, other_fields};
 use asking::{Book, Question, ask, load, load_book, question_of, say, say_number};
-use replies::Numbers;
+use book::{Fault, Refusal};
+use replies::Given;
 use text::{from, part_before, upto};
 
 const LINE_END: u8 = b'\n';
-
-// The refusal of an output that is too short.
-const SHORT: u64 = 13;
 
 // What a line asks that has an output: `B`, `T`, and each other line as `C`.
 fn asked_of(line: &[u8]) -> Question {
@@ -38,7 +36,7 @@ struct Case<'a> {
 
 impl<'a> Case<'a> {
     // Asks with the first bytes of a filled room as the output.
-    fn ask_within(&self, room: &mut [u8], size: usize) -> Numbers
+    fn ask_within(&self, room: &mut [u8], size: usize) -> Result<Given, Refusal>
         requires { size ≤ length room.old }
     {
         fill(room);
@@ -47,15 +45,22 @@ impl<'a> Case<'a> {
 
     // Whether s is the whole answer that is given with more room.
     fn is_answer(&self, s: &[u8], ample: &mut [u8]) -> bool {
-        let numbers = ask(self.question, &self.book, ample);
-        numbers.bytes == s.len() as u64 && s == upto(ample, s.len())
+        match ask(self.question, &self.book, ample) {
+            Ok(given) => given.bytes == s.len() && s == upto(ample, s.len()),
+            Err(_) => false,
+        }
     }
 }
 
 // Writes what is wrong, and the number that was got.
-fn say_wrong(rt: &(impl Print + Eprint), what: &[u8], number: u64) {
+fn say_wrong(rt: &(impl Print + Eprint), what: &[u8], number: usize) {
     say(rt, what);
-    say_number(rt, number);
+    say_number(rt, number as u64);
+}
+
+// Writes what is wrong, and the number of the refusal that was got.
+fn say_fault(rt: &(impl Print + Eprint), what: &[u8], fault: Fault) {
+    say_wrong(rt, what, fault.number() as usize);
 }
 
 fn check_exact(
@@ -67,17 +72,14 @@ fn check_exact(
 )
     requires { need ≤ length room.old }
 {
-    let numbers = case.ask_within(room, need);
-    if numbers.number != 0 {
-        say_wrong(rt, b", exact refused", numbers.number);
-    } else if numbers.bytes != need as u64 {
-        say_wrong(rt, b", exact gave bytes", numbers.bytes);
-    } else if !is_kept(from(room, need)) {
-        say(rt, b", exact wrote behind its end");
-    } else if !case.is_answer(upto(room, need), ample) {
-        say(rt, b", exact is another answer than with more room");
-    } else {
-        say(rt, b", exact ok");
+    match case.ask_within(room, need) {
+        Err(refusal) => say_fault(rt, b", exact refused", refusal.fault),
+        Ok(given) if given.bytes != need => say_wrong(rt, b", exact gave bytes", given.bytes),
+        Ok(_) if !is_kept(from(room, need)) => say(rt, b", exact wrote behind its end"),
+        Ok(_) if !case.is_answer(upto(room, need), ample) => {
+            say(rt, b", exact is another answer than with more room");
+        }
+        Ok(_) => say(rt, b", exact ok"),
     }
 }
 
@@ -85,39 +87,32 @@ fn check_short(rt: &(impl Print + Eprint), case: &Case, need: usize, room: &mut 
     requires need_nonzero { 0 < need }
     requires need_in_bounds { need ≤ length room.old }
 {
-    let numbers = case.ask_within(room, need - 1);
-    if numbers.number != SHORT {
-        say_wrong(rt, b", short number", numbers.number);
-    } else if numbers.place != need as u64 {
-        say_wrong(rt, b", short place", numbers.place);
-    } else if !is_kept(room) {
-        say(rt, b", short wrote");
-    } else {
-        say(rt, b", short ok");
+    match case.ask_within(room, need - 1) {
+        Ok(_) => say_wrong(rt, b", short number", 0),
+        Err(refusal) if refusal.fault != Fault::NoRoom => {
+            say_fault(rt, b", short number", refusal.fault);
+        }
+        Err(refusal) if refusal.place != need => say_wrong(rt, b", short place", refusal.place),
+        Err(_) if !is_kept(room) => say(rt, b", short wrote"),
+        Err(_) => say(rt, b", short ok"),
     }
 }
 
 // A refusal that no size changes.
-fn check_refused(
-    rt: &(impl Print + Eprint),
-    case: &Case,
-    room: &mut [u8],
-    number: u64,
-    place: u64,
-) {
-    say(rt, b" refused");
-    say_number(rt, number);
-    say_number(rt, place);
+fn check_refused(rt: &(impl Print + Eprint), case: &Case, room: &mut [u8], refusal: Refusal) {
+    say_fault(rt, b" refused", refusal.fault);
+    say_number(rt, refusal.place as u64);
     let size = room.len();
-    let numbers = case.ask_within(room, size);
-    if numbers.number != number {
-        say_wrong(rt, b", with more room number", numbers.number);
-    } else if numbers.place != place {
-        say_wrong(rt, b", with more room place", numbers.place);
-    } else if !is_kept(room) {
-        say(rt, b", wrote");
-    } else {
-        say(rt, b", kept ok");
+    match case.ask_within(room, size) {
+        Ok(_) => say_wrong(rt, b", with more room number", 0),
+        Err(other) if other.fault != refusal.fault => {
+            say_fault(rt, b", with more room number", other.fault);
+        }
+        Err(other) if other.place != refusal.place => {
+            say_wrong(rt, b", with more room place", other.place);
+        }
+        Err(_) if !is_kept(room) => say(rt, b", wrote"),
+        Err(_) => say(rt, b", kept ok"),
     }
 }
 
@@ -152,11 +147,12 @@ fn check_line(
         book: *book,
         question: asked_of(line),
     };
-    let numbers = case.ask_within(room, 0);
-    match numbers.number {
-        0 => check_need(rt, &case, 0, room, ample),
-        SHORT => check_need(rt, &case, numbers.place as usize, room, ample),
-        number => check_refused(rt, &case, room, number, numbers.place),
+    match case.ask_within(room, 0) {
+        Ok(_) => check_need(rt, &case, 0, room, ample),
+        Err(refusal) if refusal.fault == Fault::NoRoom => {
+            check_need(rt, &case, refusal.place, room, ample);
+        }
+        Err(refusal) => check_refused(rt, &case, room, refusal),
     }
     say(rt, b"\n");
 }

@@ -37,14 +37,16 @@ fn split_question(letter: u8, body: &[u8]) -> (Question, &[u8]) {
     }
 }
 
-// Whether the numbers are those that are listed.
-fn same_numbers(numbers: Numbers, answer: &[u8]) -> bool {
-    let listed = |at: usize| long_at(answer, at) as u64;
-    numbers.number == listed(2)
-        && numbers.place == listed(6)
-        && numbers.first == listed(10)
-        && numbers.second == listed(14)
-        && numbers.bytes == listed(18)
+// The numbers that are listed.
+fn listed_numbers(answer: &[u8]) -> Numbers {
+    let number = |at: usize| long_at(answer, at) as u64;
+    Numbers {
+        number: number(2),
+        place: number(6),
+        first: number(10),
+        second: number(14),
+        bytes: number(18),
+    }
 }
 
 // Whether a question is answered as is listed, by the numbers and by what the room holds then: the room that was lent, the five numbers and the
@@ -55,9 +57,9 @@ fn agrees(question: Question, book: &Book, answer: &[u8], room: &mut [u8]) -> bo
         return false;
     }
     fill(room);
-    let numbers = ask(question, book, &mut room[..size]);
+    let numbers = Numbers::from(ask(question, book, &mut room[..size]));
     let bytes = from(answer, 22);
-    same_numbers(numbers, answer)
+    numbers == listed_numbers(answer)
         && upto(room, bytes.len()) == bytes
         && is_kept(from(room, bytes.len()))
 }

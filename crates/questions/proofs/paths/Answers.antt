@@ -3,7 +3,7 @@ use native.Mathlib.Omega.{arith}
 use lib.ListN.{length}
 use Rattle.std.specs.Prelude.{option_copied}
 use Rattle.std.proofs.lemmas.Result.{err_from_is_err_and}
-use Rattle.replies.proofs.Replies.{told_as}
+use Rattle.replies.proofs.Replies.{answered_as, answered_refused}
 use Rattle.replies.specs.Replies.{listed}
 use Rattle.paths_reply.specs.Paths.{paths_by}
 use Rattle.tsconfig.specs.Claims.{Site}
@@ -16,14 +16,14 @@ pub returns-in_err-book : goal.returns-in_err-book
 returns-in_err-book c =
     let a = c.args in
     let p = err_from_is_err_and c.from_residual.result c.from_residual.ensures.1 in
-    rw (p.1, p.2) (paths_refused a.commands.now a.text.now a.path.now a.specifier.now (length a.out.now) (option_copied a.directory) _ c.in_err-book.ensures, refl)
+    rw (p.1, p.2) (answered_refused _ _ _ (paths_refused a.commands.now a.text.now a.path.now a.specifier.now (length a.out.now) (option_copied a.directory) _ c.in_err-book.ensures))
 
 pub returns-in_err-row : goal.returns-in_err-row
 returns-in_err-row c =
     let a = c.args in
     let accepted = paths_accepted a.commands.now a.text.now a.path.now a.specifier.now (length a.out.now) (option_copied a.directory) _ c.in_ok-book.ensures _ c.is_asked.ensures in
     let p = err_from_is_err_and c.from_residual-in_err-row.result c.from_residual-in_err-row.ensures.1 in
-    rw (p.1, p.2) (then_refused _ (records_in c.in_ok-book.book) _ _ accepted _ c.in_err-row.ensures, refl)
+    rw (p.1, p.2) (answered_refused _ _ _ (then_refused _ (records_in c.in_ok-book.book) _ _ accepted _ c.in_err-row.ensures))
 
 pub write_paths-requires-clause-asks : goal.write_paths-requires-clause-asks
 write_paths-requires-clause-asks c =
@@ -44,7 +44,7 @@ returns c =
     let accepted = paths_accepted a.commands.now a.text.now a.path.now a.specifier.now (length a.out.now) (option_copied a.directory) _ c.in_ok-book.ensures _ c.is_asked.ensures in
     let b = c.new-built in
     let same = site_is b.result.config _ _ (b.ensures.book ∙ c.new.ensures.book) (b.ensures.row ∙ c.new.ensures.row) in
-    told_as _ _ _ _ _
+    answered_as _ _ _ _ _
     (then_ready _ (records_in c.in_ok-book.book) _ _ accepted _ c.in_ok-row.ensures
     ∙ sym (ap (λ (s : Site). listed (length a.out.now) (paths_by (option_copied a.directory) a.specifier.now s.config)) same))
     c.write_paths.ensures

@@ -1,5 +1,0 @@
-use Rattle.questions.proofs.Replies.{told_by}
-use Rattle.questions.proofs.tsconfig_tries.Goals as goal
-
-pub returns : goal.returns
-returns c = told_by _ _ _ _ c.paths.ensures _ c.numbers.ensures

@@ -1,0 +1,5 @@
+use Rattle.replies.proofs.Replies.{told_by}
+use Rattle.questions_c.proofs.tsconfig_build.Goals as goal
+
+pub returns : goal.returns
+returns c = told_by _ _ _ _ _ c.build.ensures c.from.ensures
