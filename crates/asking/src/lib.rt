@@ -247,7 +247,9 @@ pub fn load_book<'a>(
     rt: &(impl Files + Eprint),
     commands: &'a mut [u8],
     text: &'a mut [u8],
-) -> Option<Book<'a>> {
+) -> Option<Book<'a>>
+    ensures { IfSome result (λ b. (length b.commands.now ≤ length commands.old) × (length b.text.now ≤ length text.old)) }
+{
     let m = load(rt, b"book.cmd", commands)?;
     let n = load(rt, b"book.txt", text)?;
     Some(Book {
