@@ -1,13 +1,13 @@
 -- The items of a record, one after the other: what a search for the next one says of the record's commands. Assumes nothing.
 use mathlib.Core.Path.{◌≡◌, refl, sym, ap, ap₂, subst, ◌∙◌}
 use mathlib.Core.List.{List, [], ◌∷◌, ◌++◌, map}
-use mathlib.Core.Bool.{Bool, true, false, cond, true≢false}
+use mathlib.Core.Bool.{Bool, true, false, true≢false}
 use Rattle.std.specs.Prelude.{Some, None, unwrap_or, is_some}
 use Prim.Native.Nat.{ℕ, zero, suc, ◌+◌, ◌-◌, ◌≤◌, ◌<◌}
 use native.Mathlib.Omega.{arith}
 use lib.ListN.{length, drop}
 use lib.Dec.{eqb, leb}
-use borrow.Author.Tests.{eq-eqb, ne_eqb, eqb-true}
+use borrow.Author.Tests.{ne_eqb, eqb-true}
 use Rattle.text.specs.Bytes.{Text}
 use Rattle.text.specs.Text.{some_of}
 use Rattle.text.proofs.Picks.{by_test}
@@ -23,7 +23,6 @@ use Rattle.book.specs.Steps.{step_at}
 use Rattle.book.proofs.Steps.{decoded, decode_step, Moved, step_moves}
 use Rattle.std.specs.Prelude.{Option}
 use Rattle.std.specs.List.{find}
-use Rattle.std.proofs.Common.{Bor}
 use Rattle.items.specs.declared.Targets.{Targets}
 use Rattle.items.specs.Runs.{NextTarget, behind}
 use Rattle.items.specs.Items.{offset_of, paired, item_to, item_by, item_of, option_item, target_item}

@@ -1,15 +1,15 @@
 -- How many of a command there may be now, by the ways out of the code. Assumes nothing.
 use mathlib.Core.Path.{◌≡◌, refl, sym, ◌∙◌}
-use mathlib.Core.List.{List, [], ◌∷◌}
-use mathlib.Core.Bool.{Bool, true, false, not, ◌&&◌, ◌||◌, cond, true≢false}
+use mathlib.Core.List.{List}
+use mathlib.Core.Bool.{Bool, true, false, not, ◌&&◌, ◌||◌, true≢false}
 use Prim.Native.Nat.{ℕ}
-use Rattle.std.specs.Prelude.{Option, Some, None, unwrap_or}
+use Rattle.std.specs.Prelude.{Option, unwrap_or}
 use lib.ListN.{get_or}
 use lib.Dec.{eqb}
 use borrow.Author.Tests.{ne_eqb, eqb-true, eqb-false}
 use Rattle.text.proofs.Picks.{by_test}
 use Rattle.strings.proofs.Tame.{and_left, and_right}
-use Rattle.book.specs.Command.{begin, key, target, widths, width_of}
+use Rattle.book.specs.Command.{begin, key, target, width_of}
 use Rattle.book.specs.Rules.{openers, limits}
 use Rattle.book.specs.State.{has, entry}
 use Rattle.usual.specs.Usual.{most_of, open_now, most_now}
