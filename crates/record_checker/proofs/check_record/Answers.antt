@@ -1,5 +1,5 @@
-use mathlib.Core.Path.{◌≡◌, sym, ap, subst, ◌∙◌}
-use Prim.Native.Nat.{ℕ, ◌+◌}
+use mathlib.Core.Path.{◌≡◌, sym, ap, ◌∙◌}
+use Prim.Native.Nat.{◌+◌}
 use borrow.Author.Rules.{rules}
 use Rattle.std.specs.Prelude.{Result, Err, Some}
 use Rattle.std.specs.Result.{IfOk}
@@ -9,9 +9,9 @@ use Rattle.book.specs.State.{slotted}
 use Rattle.record_checker.proofs.Mapped.{mapped_ok, mapped_err}
 use native.Mathlib.Omega.{arith}
 use Rattle.book.specs.Refusals.{told}
-use Rattle.verdicts.proofs.Turns.{sofar_none, turn_stopped, turn_refused, turn_less, byte_known, turn_slot, slot_room}
+use Rattle.verdicts.proofs.Turns.{sofar_none, turn_stopped, turn_refused, byte_known}
 use Rattle.record_checker.proofs.Passes.{moved_on, stood}
-use Rattle.record_checker.proofs.Ends.{ended_long, ended_closed, no_end, left_key, key_refused, clear_here, looked_on}
+use Rattle.record_checker.proofs.Ends.{ended_long, ended_closed, left_key, key_refused, looked_slot, looked_less, looked_on}
 use Rattle.record_checker.proofs.check_record.Goals as goal
 
 pub loop-at-init : goal.loop-at-init
@@ -52,13 +52,17 @@ returns-in_err-k c =
 pub returns-then-c-eq-KEY : goal.returns-then-c-eq-KEY
 returns-then-c-eq-KEY c =
     let q : c.refusal.result ≡ record { fault = GivenBefore; place = c.args.base + c.loop-at.at } = search rules in
-    rw q (key_refused _ _ _ _ (stood _ _ _ _ c.loop-at.invariant c.pass-to.ensures c.if-at-to.false) c.command_at.ensures (mapped_ok c.command_at.result c.map_err.result _ c.map_err.ensures.cases _ c.in_ok-c.was) (sym c.fault_of.ensures.fault ∙ ap told (mapped_ok c.fault_of.result c.map_err-in-loop-at.result _ c.map_err-in-loop-at.ensures.cases _ c.in_ok-k.was)) c.if-c-eq-KEY.true (left_key _ _ _ _ _ _ c.pass-to.ensures c.if-at-to.false _ _ (sym (mapped_ok c.command_at.result c.map_err.result _ c.map_err.ensures.cases _ c.in_ok-c.was) ∙ c.command_at.ensures) c.if-c-eq-KEY.true))
+    rw q (
+    key_refused _ _ _ _ (stood _ _ _ _ c.loop-at.invariant c.pass-to.ensures c.if-at-to.false) c.command_at.ensures (mapped_ok c.command_at.result c.map_err.result _ c.map_err.ensures.cases _ c.in_ok-c.was) c.fault_of.ensures (mapped_ok c.fault_of.result c.map_err-in-loop-at.result _ c.map_err-in-loop-at.ensures.cases _ c.in_ok-k.was) c.if-c-eq-KEY.true
+    (left_key _ _ _ _ _ _ c.pass-to.ensures c.if-at-to.false _ _ (sym (mapped_ok c.command_at.result c.map_err.result _ c.map_err.ensures.cases _ c.in_ok-c.was) ∙ c.command_at.ensures) c.if-c-eq-KEY.true))
 
 pub push-requires : goal.push-requires
-push-requires c = (turn_slot _ _ _ _ (stood _ _ _ _ c.loop-at.invariant c.pass-to.ensures c.if-at-to.false) c.command_at.ensures (mapped_ok c.command_at.result c.map_err.result _ c.map_err.ensures.cases _ c.in_ok-c.was) (clear_here _ _ _ _ (stood _ _ _ _ c.loop-at.invariant c.pass-to.ensures c.if-at-to.false) c.command_at.ensures (mapped_ok c.command_at.result c.map_err.result _ c.map_err.ensures.cases _ c.in_ok-c.was) (sym c.fault_of.ensures.fault ∙ ap told (mapped_ok c.fault_of.result c.map_err-in-loop-at.result _ c.map_err-in-loop-at.ensures.cases _ c.in_ok-k.was)) c.if-c-eq-KEY.false) (subst (λ (r : Result ℕ Fault). IfOk r (λ k. slotted c.in_ok-c.c ≡ Some k)) (mapped_ok c.fault_of.result c.map_err-in-loop-at.result _ c.map_err-in-loop-at.ensures.cases _ c.in_ok-k.was) c.fault_of.ensures.in_slot), slot_room _ _ _ _ (stood _ _ _ _ c.loop-at.invariant c.pass-to.ensures c.if-at-to.false) c.command_at.ensures (mapped_ok c.command_at.result c.map_err.result _ c.map_err.ensures.cases _ c.in_ok-c.was) (clear_here _ _ _ _ (stood _ _ _ _ c.loop-at.invariant c.pass-to.ensures c.if-at-to.false) c.command_at.ensures (mapped_ok c.command_at.result c.map_err.result _ c.map_err.ensures.cases _ c.in_ok-c.was) (sym c.fault_of.ensures.fault ∙ ap told (mapped_ok c.fault_of.result c.map_err-in-loop-at.result _ c.map_err-in-loop-at.ensures.cases _ c.in_ok-k.was)) c.if-c-eq-KEY.false) (subst (λ (r : Result ℕ Fault). IfOk r (λ k. slotted c.in_ok-c.c ≡ Some k)) (mapped_ok c.fault_of.result c.map_err-in-loop-at.result _ c.map_err-in-loop-at.ensures.cases _ c.in_ok-k.was) c.fault_of.ensures.in_slot))
+push-requires c = looked_slot _ _ _ _ (stood _ _ _ _ c.loop-at.invariant c.pass-to.ensures c.if-at-to.false) c.command_at.ensures (mapped_ok c.command_at.result c.map_err.result _ c.map_err.ensures.cases _ c.in_ok-c.was) c.fault_of.ensures (mapped_ok c.fault_of.result c.map_err-in-loop-at.result _ c.map_err-in-loop-at.ensures.cases _ c.in_ok-k.was) c.if-c-eq-KEY.false
 
 pub loop-at-smaller : goal.loop-at-smaller
-loop-at-smaller c = turn_less _ _ _ _ (stood _ _ _ _ c.loop-at.invariant c.pass-to.ensures c.if-at-to.false) c.command_at.ensures (mapped_ok c.command_at.result c.map_err.result _ c.map_err.ensures.cases _ c.in_ok-c.was) (clear_here _ _ _ _ (stood _ _ _ _ c.loop-at.invariant c.pass-to.ensures c.if-at-to.false) c.command_at.ensures (mapped_ok c.command_at.result c.map_err.result _ c.map_err.ensures.cases _ c.in_ok-c.was) (sym c.fault_of.ensures.fault ∙ ap told (mapped_ok c.fault_of.result c.map_err-in-loop-at.result _ c.map_err-in-loop-at.ensures.cases _ c.in_ok-k.was)) c.if-c-eq-KEY.false)
+loop-at-smaller c = looked_less _ _ _ _ (stood _ _ _ _ c.loop-at.invariant c.pass-to.ensures c.if-at-to.false) c.command_at.ensures (mapped_ok c.command_at.result c.map_err.result _ c.map_err.ensures.cases _ c.in_ok-c.was) c.fault_of.ensures (mapped_ok c.fault_of.result c.map_err-in-loop-at.result _ c.map_err-in-loop-at.ensures.cases _ c.in_ok-k.was) c.if-c-eq-KEY.false
 
 pub loop-at-preserved : goal.loop-at-preserved
-loop-at-preserved c = looked_on _ _ _ _ (stood _ _ _ _ c.loop-at.invariant c.pass-to.ensures c.if-at-to.false) c.command_at.ensures (mapped_ok c.command_at.result c.map_err.result _ c.map_err.ensures.cases _ c.in_ok-c.was) (sym c.fault_of.ensures.fault ∙ ap told (mapped_ok c.fault_of.result c.map_err-in-loop-at.result _ c.map_err-in-loop-at.ensures.cases _ c.in_ok-k.was)) c.if-c-eq-KEY.false (subst (λ (r : Result ℕ Fault). IfOk r (λ k. slotted c.in_ok-c.c ≡ Some k)) (mapped_ok c.fault_of.result c.map_err-in-loop-at.result _ c.map_err-in-loop-at.ensures.cases _ c.in_ok-k.was) c.fault_of.ensures.in_slot) (no_end _ _ _ _ (stood _ _ _ _ c.loop-at.invariant c.pass-to.ensures c.if-at-to.false) _ c.is_ended.ensures c.if-is_ended.false c.command_at.ensures (mapped_ok c.command_at.result c.map_err.result _ c.map_err.ensures.cases _ c.in_ok-c.was) (sym c.fault_of.ensures.fault ∙ ap told (mapped_ok c.fault_of.result c.map_err-in-loop-at.result _ c.map_err-in-loop-at.ensures.cases _ c.in_ok-k.was))) _ c.push.ensures.counts_after _ c.push.ensures.last_after
+loop-at-preserved c =
+    looked_on _ _ _ _ (stood _ _ _ _ c.loop-at.invariant c.pass-to.ensures c.if-at-to.false) c.command_at.ensures (mapped_ok c.command_at.result c.map_err.result _ c.map_err.ensures.cases _ c.in_ok-c.was) c.fault_of.ensures (mapped_ok c.fault_of.result c.map_err-in-loop-at.result _ c.map_err-in-loop-at.ensures.cases _ c.in_ok-k.was) c.if-c-eq-KEY.false
+    _ c.is_ended.ensures c.if-is_ended.false _ c.push.ensures.counts_after _ c.push.ensures.last_after
