@@ -88,15 +88,14 @@ module _ (Q : Text → Bool) (s : Text) where
   pub star_start : Carries inside_of (after no_slash Q) s s
   star_start = record { room = omega arith; whole = inside_weaker (after no_slash Q) s }
 
-  pub star_skips : (left : Text) → Carries inside_of (after no_slash Q) s left → (j : ℕ) → Skips Q left j → (here : Text) → here ≡ drop j left → Carries inside_of (after no_slash Q) s here
-  star_skips left a j b here e =
-      record {
-        room = omega (arith, a.room, ap length e, length-drop j left);
-        whole = λ w k. rw (inside_inside w) at (a.whole (inside_of w) (b.whole w (rw e at k)));
-      }
+-- j bytes were skipped, and Q was tried on what is left, with the verdict v
+module _ (Q : Text → Bool) (s front : Text) (c : Carries inside_of (after no_slash Q) s front) (j : ℕ) (b : Skips Q front j) (left : Text) (d : left ≡ drop j front) (v : Verdict) (h : Sound v Q left) where
+  a : Carries inside_of (after no_slash Q) s left
+  a = record {
+    room = omega (arith, c.room, ap length d, length-drop j front);
+    whole = λ w k. rw (inside_inside w) at (c.whole (inside_of w) (b.whole w (rw d at k)));
+  }
 
--- Q was tried on what is left, with the verdict v
-module _ (Q : Text → Bool) (s left : Text) (a : Carries inside_of (after no_slash Q) s left) (v : Verdict) (h : Sound v Q left) where
   pub star_settled : is_settled v ≡ true → Sound v (after no_slash Q) s
   star_settled t = rw (inside_settled v t) at (a.whole v (run_settled Q left v t h))
 

@@ -1,7 +1,7 @@
 use Rattle.std.proofs.Common.{arith, sym, ap, ◌∙◌, ◌+◌, length, length-drop}
 use Rattle.text.proofs.Parts.{from_some}
 use Rattle.text.proofs.Scans.{find_within}
-use Rattle.glob.proofs.Tries.{star_start, star_skips, star_settled, star_end, star_slash, star_on, stars_start, stars_decided, stars_none, stars_on}
+use Rattle.glob.proofs.Tries.{star_start, star_settled, star_end, star_slash, star_on, stars_start, stars_decided, stars_none, stars_on}
 use Rattle.matcher.proofs.+glob.Goals as goal
 
 pub after_star-loop-here-init : goal.after_star-loop-here-init
@@ -9,23 +9,19 @@ after_star-loop-here-init t c = star_start _ _
 
 pub after_star-returns-then-is_settled : goal.after_star-returns-then-is_settled
 after_star-returns-then-is_settled t c =
-    let a = star_skips _ _ _ c.loop-here.invariant _ c.skip.ensures _ (from_some c.loop-here.left.now c.skip.result) in
-    star_settled _ _ _ a c.glob-v.result c.glob-v.ensures (sym c.is_settled.ensures ∙ c.if-is_settled.true)
+    star_settled _ _ _ c.loop-here.invariant _ c.skip.ensures _ (from_some c.loop-here.left.now c.skip.result) c.glob-v.result c.glob-v.ensures (sym c.is_settled.ensures ∙ c.if-is_settled.true)
 
 pub after_star-returns-in-empty : goal.after_star-returns-in-empty
 after_star-returns-in-empty t c =
-    let a = star_skips _ _ _ c.loop-here.invariant _ c.skip.ensures _ (from_some c.loop-here.left.now c.skip.result) in
-    star_end _ _ _ a c.glob-v.result c.glob-v.ensures (sym c.is_settled.ensures ∙ c.if-is_settled.false) c.in-empty.len_below
+    star_end _ _ _ c.loop-here.invariant _ c.skip.ensures _ (from_some c.loop-here.left.now c.skip.result) c.glob-v.result c.glob-v.ensures (sym c.is_settled.ensures ∙ c.if-is_settled.false) c.in-empty.len_below
 
 pub after_star-returns-in-47 : goal.after_star-returns-in-47
 after_star-returns-in-47 t c =
-    let a = star_skips _ _ _ c.loop-here.invariant _ c.skip.ensures _ (from_some c.loop-here.left.now c.skip.result) in
-    star_slash _ _ _ a c.glob-v.result c.glob-v.ensures (sym c.is_settled.ensures ∙ c.if-is_settled.false) c.in-47.len_at_least (omega arith)
+    star_slash _ _ _ c.loop-here.invariant _ c.skip.ensures _ (from_some c.loop-here.left.now c.skip.result) c.glob-v.result c.glob-v.ensures (sym c.is_settled.ensures ∙ c.if-is_settled.false) c.in-47.len_at_least (omega arith)
 
 pub after_star-loop-here-preserved : goal.after_star-loop-here-preserved
 after_star-loop-here-preserved t c =
-    let a = star_skips _ _ _ c.loop-here.invariant _ c.skip.ensures _ (from_some c.loop-here.left.now c.skip.result) in
-    star_on _ _ _ a c.glob-v.result c.glob-v.ensures (sym c.is_settled.ensures ∙ c.if-is_settled.false) c.in-len1-up.len_at_least (omega arith) _ (from_some _ 1)
+    star_on _ _ _ c.loop-here.invariant _ c.skip.ensures _ (from_some c.loop-here.left.now c.skip.result) c.glob-v.result c.glob-v.ensures (sym c.is_settled.ensures ∙ c.if-is_settled.false) c.in-len1-up.len_at_least (omega arith) _ (from_some _ 1)
 
 pub after_stars-loop-here-init : goal.after_stars-loop-here-init
 after_stars-loop-here-init t c = stars_start _ _
