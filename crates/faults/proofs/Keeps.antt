@@ -17,7 +17,7 @@ use Rattle.strings.proofs.Tame.{tame_part}
 use Rattle.book.specs.Command.{begin, key, target, flag, text_option}
 use Rattle.book.specs.Rules.{slot, in_range, tally, openers, limits, opened, fresh, follows, in_order, too_many, text_of, own_rule, good_string}
 use Rattle.book.specs.State.{has, pushed, Agrees, slotted, entry}
-use Rattle.std.specs.Prelude.{Option, Some, None, MatchOption, IfSome}
+use Rattle.std.specs.Prelude.{Option, Some, None, MatchOption}
 use Rattle.book.proofs.Table.{at_each, T_true}
 use Rattle.text.proofs.Picks.{by_test}
 
@@ -45,18 +45,6 @@ entry_none n e =
     by_test (eqb n 0)
     (λ y. eqb-true n 0 y)
     (λ y. let z : Some n ≡ None = rw y at e in let q : ⊥ = cc in absurd q)
-
--- an opener, if there is one, has a slot
-pub opener_under : (o : Option ℕ) (n : ℕ) → o ≡ entry n → n < 21 → IfSome o (λ k. k < 21)
-opener_under None n e h = tt
-opener_under (Some k) n e h = let z = entry_some n (sym e) in omega (arith, z.0, h)
-
--- whether what it must come after is there
-pub opened_by : (counts : List ℕ) (o : Option ℕ) (n : ℕ) (r : Bool) → o ≡ entry n → MatchOption o (r ≡ true) (λ k. r ≡ not (eqb (has counts k) 0)) → r ≡ (eqb n 0 || not (eqb (has counts n) 0))
-opened_by counts None n r e h = h ∙ sym (rw (entry_none n (sym e)) refl)
-opened_by counts (Some k) n r e h =
-    let z = entry_some n (sym e) in
-    h ∙ rw (z.0, ne_eqb n 0 (λ q. z.1 (z.0 ∙ q))) refl
 
 module _ (count : ℕ → ℕ) (last : ℕ) (c : Cmd) where
   pub order_range : in_range c ≡ false → false ≡ in_order count last c

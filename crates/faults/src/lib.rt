@@ -1,7 +1,7 @@
 // What is wrong with a command, given those before it.
 #![tactic(auto)]
 
-ghost use Rattle.std.specs.Prelude.{◌≡◌, [], Some, true, not, ◌&&◌, ◌||◌, ◌+◌, ◌<◌, ◌≤◌, length, get_or, replicate, eqb, leb, IfOk, IfSome, MatchOption};
+ghost use Rattle.std.specs.Prelude.{◌≡◌, [], Some, true, not, ◌&&◌, ◌||◌, ◌+◌, ◌<◌, ◌≤◌, length, get_or, replicate, eqb, leb, IfOk};
 ghost use Rattle.strings.specs.Strings.{string_rule};
 ghost use Rattle.strings.specs.Scan.{tame_text};
 ghost use Rattle.book.specs.Command.{key, target};
@@ -80,23 +80,31 @@ fn slot_of(c: Cmd) -> Option<usize>
     }
 }
 
-// What a command must come after in its record, and how many of it a record may have, of targets a key, where it may repeat. One of a list comes after what opens
-// the list, whose byte is the one before. Only BEGIN comes after nothing.
-pub fn order_of(op: u8) -> (Option<u8>, Option<u8>)
+// What a command must come after in its record: where it is one of a list, what opens the list, whose byte is the one before. Only BEGIN comes after nothing.
+fn opener_of(op: u8) -> Option<u8>
     requires { op < 21 }
-    ensures opener { result.0 ≡ entry (get_or openers op 0) }
-    ensures limit { result.1 ≡ entry (get_or limits op 0) }
+    ensures opener { result ≡ entry (get_or openers op 0) }
     ensures bound { get_or openers op 0 < 21 }
 {
     match op {
-        BEGIN => (None, None),
-        FILE | INCLUDE_ITEM | EXCLUDE_ITEM => (Some(op - 1), Some(64)),
-        ROOT_DIR => (Some(op - 1), Some(8)),
-        KEY => (Some(op - 1), Some(32)),
-        TARGET => (Some(KEY), Some(8)),
-        EXTENDS => (Some(BEGIN), Some(8)),
-        REFERENCE => (Some(BEGIN), Some(16)),
-        _ => (Some(BEGIN), None),
+        BEGIN => None,
+        TARGET => Some(KEY),
+        FILE | INCLUDE_ITEM | EXCLUDE_ITEM | KEY | ROOT_DIR => Some(op - 1),
+        _ => Some(BEGIN),
+    }
+}
+
+// How many of a command a record may have, of targets a key, where it may repeat.
+fn limit_of(op: u8) -> Option<u8>
+    requires { op < 21 }
+    ensures { result ≡ entry (get_or limits op 0) }
+{
+    match op {
+        FILE | INCLUDE_ITEM | EXCLUDE_ITEM => Some(64),
+        EXTENDS | TARGET | ROOT_DIR => Some(8),
+        KEY => Some(32),
+        REFERENCE => Some(16),
+        _ => None,
     }
 }
 
@@ -105,7 +113,7 @@ fn is_fresh(op: u8, n: u8) -> bool
     requires { op < 21 }
     ensures { result ≡ (not (eqb (get_or limits op 0) 0) || eqb n 0) }
 {
-    n == 0 || order_of(op).1.is_some()
+    n == 0 || limit_of(op).is_some()
 }
 
 // What stands of a record: how many commands of each slot, of targets those of the last key, and the byte of the last command.
@@ -133,12 +141,12 @@ impl Tally {
         self.counts[k] != 0
     }
 
-    // What a command must come after is there.
-    pub fn is_opened(&self, opener: Option<u8>) -> bool
-        requires { IfSome opener (λ k. k < 21) }
-        ensures { MatchOption opener (result ≡ true) (λ k. result ≡ not (eqb (has self.now.counts k) 0)) }
+    // What the command must come after is there.
+    fn is_opened(&self, op: u8) -> bool
+        requires { op < 21 }
+        ensures { result ≡ (eqb (get_or openers op 0) 0 || not (eqb (has self.now.counts (get_or openers op 0)) 0)) }
     {
-        opener.is_none_or(|opener| self.has(usize::from(opener)))
+        opener_of(op).is_none_or(|opener| self.has(usize::from(opener)))
     }
 
     // A target comes after its key with only targets between.
@@ -153,7 +161,7 @@ impl Tally {
         requires { (c.op < 21) × (slotted c ≡ Some k) }
         ensures { result ≡ in_order (has self.now.counts) self.now.last c }
     {
-        self.is_opened(order_of(c.op).0) && is_fresh(c.op, self.counts[k]) && self.does_follow(c.op)
+        self.is_opened(c.op) && is_fresh(c.op, self.counts[k]) && self.does_follow(c.op)
     }
 
     // Whether a command, whose slot is k, is one too many, with n records before: refusal 5. Of none that may repeat may there be fewer than 8.
@@ -168,7 +176,7 @@ impl Tally {
         if m < FEWEST {
             return false;
         }
-        order_of(c.op).1.is_some_and(|most| most <= m)
+        limit_of(c.op).is_some_and(|most| most <= m)
     }
 
     // One command more, whose slot is k; a key counts its targets anew.

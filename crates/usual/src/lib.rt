@@ -9,11 +9,12 @@ ghost use Rattle.book.specs.State.{has, AllSeen};
 ghost use Rattle.usual.specs.Usual.{fitting, most_now, once, Passed, Taken};
 
 use book::{
-    BEGIN, BEGIN_SLOT, EXCLUDE, FILES, FLAG, FLAG_SLOTS, INCLUDE, KEY, KEY_SLOT, LAST_FLAG, PATHS,
-    PATHS_SLOT, ROOT_DIRS, STRIDE, Seen, is_spanned, read_span, string_of,
+    BASE_URL, BEGIN, BEGIN_SLOT, DECLARATION_DIR, EXCLUDE, EXCLUDE_ITEM, EXTENDS, FILE, FILES,
+    FLAG, FLAG_SLOTS, INCLUDE, INCLUDE_ITEM, KEY, KEY_SLOT, LAST_FLAG, OUT_DIR, PATHS, PATHS_SLOT,
+    REFERENCE, ROOT_DIR, ROOT_DIRS, STRIDE, Seen, TARGET, read_span, string_of,
 };
 use compare::digest;
-use faults::{BookText, Tally, order_of};
+use faults::{BookText, Tally};
 use meeting::Keys;
 use text::from;
 
@@ -37,23 +38,36 @@ fn fits(text: &[u8], part: &[u8], at: usize, op: u8) -> bool
     text.is_good(read_span(from(part, at)))
 }
 
-// How many of a command with a string a record may have, where it may come now; 0 for any other, for BEGIN and for a key.
-fn most_now(tally: &Tally, op: u8) -> u8
-    ensures { result ≡ most_now tally.now.counts tally.now.last op }
+// How many of a command there may be, given that of one before it; none where that is missing.
+fn most_behind(tally: &Tally, opener: u8, most: u8) -> u8
+    requires { opener < 39 }
+    ensures { result ≡ cond (eqb (has tally.now.counts opener) 0) 0 most }
 {
-    if !is_spanned(op) || op == BEGIN || op == KEY || !tally.does_follow(op) {
-        return 0;
-    }
-    let (opener, most) = order_of(op);
-    if tally.is_opened(opener) {
-        most.unwrap_or(1)
+    if tally.has(usize::from(opener)) {
+        most
     } else {
         0
     }
 }
 
-// Takes the commands with the byte op from the offset on, as many as fit. The offset after them. Commands, offset and tally are handed on by themselves, here and
-// below: the tally alone is changed, and the record checker goes on with each of the three.
+// How many of a command with a string a record may have, where it may come now; 0 for any other, for BEGIN and for a key. What `faults` has as
+// openers and limits stands here once more: by one table for both a check of a small book takes 5 in 100 more instructions.
+fn most_now(tally: &Tally, op: u8) -> u8
+    ensures { result ≡ most_now tally.now.counts tally.now.last op }
+{
+    match op {
+        FILE | INCLUDE_ITEM | EXCLUDE_ITEM => most_behind(tally, op - 1, 64),
+        ROOT_DIR => most_behind(tally, ROOT_DIRS, 8),
+        EXTENDS => most_behind(tally, BEGIN, 8),
+        REFERENCE => most_behind(tally, BEGIN, 16),
+        BASE_URL | OUT_DIR | DECLARATION_DIR => most_behind(tally, BEGIN, 1),
+        TARGET if tally.does_follow(TARGET) => most_behind(tally, KEY, 8),
+        _ => 0,
+    }
+}
+
+// Takes the commands with the byte op from the offset on, as many as fit. The offset after them. Commands, offset and tally are handed on by
+// themselves, here and below: the tally alone is changed, and the record checker goes on with each of the three.
 fn pass_run(text: &[u8], part: &[u8], at: usize, tally: &mut Tally, op: u8) -> usize
     requires { (at ≤ length part.now) × (tame_text text.now ≡ true) }
     ensures { Passed part.now text.now tally.old.counts tally.old.last at tally.new.counts tally.new.last result }
@@ -139,8 +153,8 @@ fn pass_key(
     at + STRIDE
 }
 
-// Takes the usual commands at the offset: none, one, or a run of one kind. The offset after them. What is known of the keys is asked: it is a fact about the text and
-// about the tally too, and `Keys` has neither.
+// Takes the usual commands at the offset: none, one, or a run of one kind. The offset after them. What is known of the keys is asked: it is a fact
+// about the text and about the tally too, and `Keys` has neither.
 pub fn pass(
     text: &BookText<'_>,
     part: &[u8],
@@ -166,7 +180,8 @@ pub fn pass(
             }
             at
         }
-        // In a tame text alone: with the other rules of strings the run is too long for the loop, and a check at the limits takes three tenths more instructions.
+        // In a tame text alone: with the other rules of strings the run is too long for the loop, and a check at the limits takes three tenths more
+        // instructions.
         _ if text.tame => pass_run(text.bytes, part, at, tally, op),
         _ => at,
     }

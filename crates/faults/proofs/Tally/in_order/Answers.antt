@@ -1,12 +1,9 @@
 use mathlib.Core.Path.{refl, sym, ◌∙◌}
 use mathlib.Core.Bool.{true≢false}
 use Rattle.book.specs.State.{has}
-use Rattle.faults.proofs.Keeps.{slotted_some, slot_small, opener_under, opened_by, order_closed, order_again, order_on}
+use Rattle.faults.proofs.Keeps.{slotted_some, slot_small, order_closed, order_again, order_on}
 use Rattle.faults.proofs.Tally.in_order.Goals.{then-is_opened, else-is_opened}
 use Rattle.faults.proofs.Tally.in_order.Goals as goal
-
-pub is_opened-requires : goal.is_opened-requires
-is_opened-requires c = opener_under _ _ c.order_of.ensures.opener c.order_of.ensures.bound
 
 pub bounds-self-k : goal.bounds-self-k
 bounds-self-k c = slot_small c.args.c c.requires.0 c.requires.1
@@ -15,7 +12,7 @@ pub returns-then-is_fresh : goal.returns-then-is_fresh
 returns-then-is_fresh c =
     let s = slotted_some c.args.c c.requires.1 in
     elim c.if-is_opened.branch [
-      | then-is_opened w ↦ order_on (has c.args.self.now.counts) c.args.self.now.last c.args.c _ refl s.0 _ (opened_by c.args.self.now.counts _ _ _ c.order_of.ensures.opener c.is_opened.ensures) _ s.1 w.if-is_opened.true _ w.is_fresh.ensures (sym w.value-is ∙ c.if-is_fresh.true) _ c.does_follow.ensures
+      | then-is_opened w ↦ order_on (has c.args.self.now.counts) c.args.self.now.last c.args.c _ refl s.0 _ c.is_opened.ensures _ s.1 w.if-is_opened.true _ w.is_fresh.ensures (sym w.value-is ∙ c.if-is_fresh.true) _ c.does_follow.ensures
       | else-is_opened w ↦ absurd (true≢false (sym c.if-is_fresh.true ∙ w.value-is ∙ w.if-is_opened.false))
     ]
 
@@ -24,6 +21,6 @@ returns-else-is_fresh c =
     let s = slotted_some c.args.c c.requires.1 in
     c.if-is_fresh.false
     ∙ elim c.if-is_opened.branch [
-      | then-is_opened w ↦ order_again (has c.args.self.now.counts) c.args.self.now.last c.args.c _ refl s.0 _ (opened_by c.args.self.now.counts _ _ _ c.order_of.ensures.opener c.is_opened.ensures) _ s.1 w.if-is_opened.true _ w.is_fresh.ensures (sym w.value-is ∙ c.if-is_fresh.false)
-      | else-is_opened w ↦ order_closed (has c.args.self.now.counts) c.args.self.now.last c.args.c _ refl s.0 _ (opened_by c.args.self.now.counts _ _ _ c.order_of.ensures.opener c.is_opened.ensures) w.if-is_opened.false
+      | then-is_opened w ↦ order_again (has c.args.self.now.counts) c.args.self.now.last c.args.c _ refl s.0 _ c.is_opened.ensures _ s.1 w.if-is_opened.true _ w.is_fresh.ensures (sym w.value-is ∙ c.if-is_fresh.false)
+      | else-is_opened w ↦ order_closed (has c.args.self.now.counts) c.args.self.now.last c.args.c _ refl s.0 _ c.is_opened.ensures w.if-is_opened.false
     ]

@@ -14,4 +14,4 @@ pub returns-then-m-lt-FEWEST : goal.returns-then-m-lt-FEWEST
 returns-then-m-lt-FEWEST c = many_few (has c.args.self.now.counts) 0 c.args.c _ refl c.args.n _ c.args.k c.if-c-eq-BEGIN.false c.requires.0 (slotted_some c.args.c c.requires.1).1 refl c.if-m-lt-FEWEST.true
 
 pub returns : goal.returns
-returns c = many_by (has c.args.self.now.counts) 0 c.args.c _ refl c.args.n c.args.k c.if-c-eq-BEGIN.false (slotted_some c.args.c c.requires.1).1 _ c.order_of.ensures.limit _ _ c.is_some_and.ensures (λ x p. search (rules, tests))
+returns c = many_by (has c.args.self.now.counts) 0 c.args.c _ refl c.args.n c.args.k c.if-c-eq-BEGIN.false (slotted_some c.args.c c.requires.1).1 _ c.limit_of.ensures _ _ c.is_some_and.ensures (λ x p. search (rules, tests))
