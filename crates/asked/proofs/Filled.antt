@@ -1,12 +1,9 @@
 -- Whether an output is still as it was filled. Assumes nothing.
-use Rattle.std.proofs.Common.{◌≡◌, ℕ, eqb, [], ◌∷◌, refl, arith}
-use Rattle.std.proofs.lemmas.Bool.Decides.{nat_tests}
+use Rattle.std.proofs.Common.{◌≡◌, ℕ, eqb, [], ◌∷◌, refl}
+use Rattle.text.proofs.Scans.{eqb_sym}
 use Rattle.std.specs.List.{list_all}
 use Rattle.text.specs.Bytes.{Text}
 use Rattle.text.specs.Text.{each_of}
-
-eqb_sym : (x y : ℕ) → eqb x y ≡ eqb y x
-eqb_sym x y = grind (arith, nat_tests)
 
 pub all_kept : (b : ℕ) (s : Text) → list_all (λ (x : ℕ). eqb x b) s ≡ each_of (eqb b) s
 unfolding each_of

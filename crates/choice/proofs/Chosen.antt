@@ -1,5 +1,6 @@
 -- The choice of a key, one after the other. Assumes nothing.
 use Rattle.std.proofs.Common.{◌≡◌, ℕ, suc, ◌+◌, ◌≤◌, ◌<◌, Bool, true, false, ◌&&◌, List, [], ◌∷◌, eqb, Option, Some, None, find, refl, sym, ap, ◌∙◌, add-one, lt-ltb, le-ltb, arith}
+use mathlib.Core.Bool.{and-false}
 use Rattle.std.specs.Cmp.Lexicographic.{pointwise}
 use Rattle.text.specs.Bytes.{Text}
 use Rattle.text.specs.Text.{same_text, star_of}
@@ -23,10 +24,6 @@ unfolding best_key
 best_end s b = refl
 
 -- the best wildcard, where k is the first of the keys that are left and b the best before it
-
-and_false : (x : Bool) → (x && false) ≡ false
-and_false true = refl
-and_false false = refl
 
 module _ (s : Text) (b : Option Key) (k : Key) (ks : List Key) where
   passed : (is_match (key_part k.key s) && longer b k) ≡ false → best_key s b (k ∷ ks) ≡ best_key s b ks
@@ -57,7 +54,7 @@ module _ (s : Text) (b : Option Key) (k : Key) (ks : List Key) where
         is_longer (Some o) z n = rw prefix_is (lt-ltb (prefix_len (star_of o.key)) star (omega (arith, z, n)))
 
         pub best_shorter : star < least → best_key s b (k ∷ ks) ≡ best_key s b ks
-        best_shorter n = passed (rw (not_longer b l n) (and_false (is_match (key_part k.key s))))
+        best_shorter n = passed (rw (not_longer b l n) (and-false (is_match (key_part k.key s))))
 
         module _ (m : Bool) (q : m ≡ matches_at k.key star s) where
           pub best_other : m ≡ false → best_key s b (k ∷ ks) ≡ best_key s b ks

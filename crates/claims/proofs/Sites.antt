@@ -3,7 +3,8 @@ use Rattle.book.specs.Index.{begin_of}
 use mathlib.Core.Path.{◌≡◌, refl, sym, ap, ◌∙◌}
 use mathlib.Core.List.{List, map}
 use mathlib.Core.Bool.{Bool, true, false, not, ◌&&◌, true≢false}
-use Rattle.std.specs.Prelude.{Option, Some, None, option_map}
+use Rattle.std.proofs.lemmas.Iterator.Adapters.{option_map_id}
+use Rattle.std.specs.Prelude.{Some, None, option_map}
 use Prim.Native.Nat.{ℕ}
 use lib.ListN.{get_or}
 use Rattle.text.specs.Bytes.{Text}
@@ -34,10 +35,6 @@ unfolding is_some
 list_there text r mark item e =
     by_test (some_of (is mark) r) (λ t. listed_is text r mark item t)
     (λ f. absurd (true≢false (sym e ∙ ap is_some (listed_not text r mark item f))))
-
-same_flag : (o : Option Bool) → option_map (λ (v : Bool). v) o ≡ o
-same_flag None = refl
-same_flag (Some v) = refl
 
 module _ (config : Config) where
   abbrev b : CheckedBook
@@ -95,7 +92,7 @@ module _ (config : Config) where
 
     pub flag_some : Some r.at ≡ begin_at b.paths.rows.now row 16 → site.config.named (flag 8) ≡ flag_of 8 (read r.commands.now r.at)
     unfolding slot plain said built_value
-    flag_some e = field_some (flag 8) refl e ∙ same_flag (flag_of 8 (read r.commands.now r.at))
+    flag_some e = field_some (flag 8) refl e ∙ option_map_id (flag_of 8 (read r.commands.now r.at))
 
 -- What include takes in, and exclude leaves
 

@@ -1,17 +1,16 @@
 -- Laws of a text's first component. Assumes nothing.
 use mathlib.Core.Path.{◌≡◌, refl, sym, ap, ◌∙◌}
+use Rattle.std.proofs.lemmas.List.{nil_from_length}
 use mathlib.Core.List.{List, [], ◌∷◌}
-use mathlib.Core.Bool.{Bool, true, false, cond}
+use mathlib.Core.Bool.{Bool, true, false, cond, true≢false}
 use Prim.Native.Nat.{ℕ, suc, ◌+◌, ◌-◌, ◌≤◌, ◌<◌}
 use native.Mathlib.Omega.{arith}
 use lib.ListN.{length, take, drop, get_or, length-drop, length-take, length-append, drop_of_length-le}
 use lib.Seq.{take_all, length-take-le}
 use lib.Dec.{eqb}
 use borrow.Author.Tests.{eqb-true, eqb-false}
-use Rattle.std.specs.List.{slice_split, onto_first, list_any}
 use Rattle.text.specs.Bytes.{Text, slash, dot}
-use Rattle.text.specs.Text.{some_of}
-use Rattle.text.proofs.Picks.{by_test, never}
+use Rattle.text.proofs.Picks.{by_test}
 use Rattle.components.specs.Components.{on_first, split, piece_of, is_skip, starts, leads_dot, lead_of, names, heads, components, trim_start}
 use Rattle.components.specs.Places.{first_of, piece_end}
 use Rattle.components.proofs.Components.{LeadIs, empty, rooted, dot_only, dot_slash, plain, lead_is, starts_not, leads_other, leads_name}
@@ -24,11 +23,8 @@ unled : (s : Text) → starts slash s ≡ false → leads_dot s ≡ false → tr
 unfolding trim_start split starts leads_dot pieces piece_of
 unled s a b = go (lead_is s) a b
   where
-    clash : {A : Type 0} → true ≡ false → A
-    clash e = let z : ◌≡◌ {A = ℕ} 0 1 = cc in never (omega arith)
-
     some : (s p : Text) (ps : List Text) → split s ≡ p ∷ ps → is_skip (piece_of p) ≡ false → split s ≡ pieces s
-    some [] p ps e k = let z : p ≡ [] = cc in clash (rw z at k)
+    some [] p ps e k = let z : p ≡ [] = cc in absurd (true≢false (rw z at k))
     some (x ∷ s) p ps e k = refl
 
     whole : (s p : Text) (ps : List Text) → split s ≡ p ∷ ps → is_skip (piece_of p) ≡ false → trim_start (split s) ≡ split s
@@ -36,20 +32,20 @@ unled s a b = go (lead_is s) a b
 
     go : {s : Text} → LeadIs s → starts slash s ≡ false → leads_dot s ≡ false → trim_start (split s) ≡ pieces s
     go empty a b = refl
-    go (rooted t) a b = clash a
-    go dot_only a b = clash b
-    go (dot_slash t) a b = clash b
+    go (rooted t) a b = absurd (true≢false a)
+    go dot_only a b = absurd (true≢false b)
+    go (dot_slash t) a b = absurd (true≢false b)
     go (plain s _ _ p ps e k) a b = whole s p ps e k ∙ some s p ps e k
 
 slash_lem : (t : Text) → 0 < length t → get_or t 0 0 ≡ slash → trim_start (split (drop 1 t)) ≡ trim_start (split t)
 unfolding trim_start split piece_of
-slash_lem [] h e = never (omega arith)
+slash_lem [] h e = absurd (omega arith)
 slash_lem (x ∷ t) h e = rw e refl
 
 dot_lem : (t : Text) → 1 < length t → get_or t 0 0 ≡ dot → get_or t 1 0 ≡ slash → trim_start (split (drop 2 t)) ≡ trim_start (split t)
 unfolding trim_start split on_first piece_of
-dot_lem [] h e f = never (omega arith)
-dot_lem (x ∷ []) h e f = never (omega arith)
+dot_lem [] h e f = absurd (omega arith)
+dot_lem (x ∷ []) h e f = absurd (omega arith)
 dot_lem (x ∷ y ∷ t) h e f = rw (e, f) refl
 
 module _ (t : Text) where
@@ -64,9 +60,9 @@ module _ (t : Text) where
   front_only h e = go t h e
     where
       go : (t : Text) → length t ≡ 1 → get_or t 0 0 ≡ dot → trim_start (split t) ≡ []
-      go [] h e = never (omega arith)
+      go [] h e = absurd (omega arith)
       go (x ∷ []) h e = rw e refl
-      go (x ∷ y ∷ t) h e = never (omega arith)
+      go (x ∷ y ∷ t) h e = absurd (omega arith)
 
   pub front_none : length t ≡ 0 → trim_start (split t) ≡ pieces t
   unfolding trim_start split piece_of pieces
@@ -74,7 +70,7 @@ module _ (t : Text) where
     where
       go : (t : Text) → length t ≡ 0 → trim_start (split t) ≡ pieces t
       go [] h = refl
-      go (x ∷ t) h = never (omega arith)
+      go (x ∷ t) h = absurd (omega arith)
 
   pub front_plain : 0 < length t → (get_or t 0 0 ≡ slash → ⊥) → (get_or t 0 0 ≡ dot → ⊥) → trim_start (split t) ≡ pieces t
   front_plain h n m = unled t (sym (starts_not slash t n)) (sym (leads_other t h m))
@@ -113,7 +109,7 @@ names_from (p ∷ ps) = by_test (is_skip (piece_of p)) (λ t. rw t (names_from p
 
 trim_head : (ps : List Text) (p : Text) (qs : List Text) → trim_start ps ≡ p ∷ qs → is_skip (piece_of p) ≡ false
 unfolding trim_start
-trim_head [] p qs e = never (omega (arith, ap length e))
+trim_head [] p qs e = absurd (omega (arith, ap length e))
 trim_head (q ∷ ps) p qs e = by_test (is_skip (piece_of q)) (λ t. trim_head ps p qs (rw t at e)) (λ f. let z : q ∷ ps ≡ p ∷ qs = rw f at e in let y : q ≡ p = cc in rw (← y) f)
 
 -- u is s from its first component on, and e where that ends
@@ -130,7 +126,7 @@ module _ (s u : Text) (d : pieces u ≡ trim_start (split s)) (e : ℕ) (h : e �
   first_some n = sym d ∙ go u n ∙ parted.whole
     where
       go : (u : Text) → 0 < length u → pieces u ≡ split u
-      go [] n = never (omega arith)
+      go [] n = absurd (omega arith)
       go (x ∷ u) n = refl
 
   first_kept : 0 < length u → is_skip (piece_of (take e u)) ≡ false
@@ -138,12 +134,8 @@ module _ (s u : Text) (d : pieces u ≡ trim_start (split s)) (e : ℕ) (h : e �
 
   first_none : length (take e u) ≡ 0 → u ≡ []
   unfolding piece_of
-  first_none z = by_test (eqb (length u) 0) (λ t. none u (eqb-true (length u) 0 t)) (λ f. let n = eqb-false (length u) 0 f in never (kept_not (take e u) z (first_kept (omega arith))))
+  first_none z = by_test (eqb (length u) 0) (λ t. nil_from_length u (eqb-true (length u) 0 t)) (λ f. let n = eqb-false (length u) 0 f in absurd (kept_not (take e u) z (first_kept (omega arith))))
     where
-      none : (u : Text) → length u ≡ 0 → u ≡ []
-      none [] n = refl
-      none (x ∷ u) n = never (omega arith)
-
       kept_not : (p : Text) → length p ≡ 0 → is_skip (piece_of p) ≡ false → ⊥
       kept_not [] z k = let y : ◌≡◌ {A = ℕ} 0 1 = cc in omega arith
       kept_not (x ∷ p) z k = omega arith
@@ -194,19 +186,3 @@ heads_lead s = by_test (starts slash s) (λ y. rw y refl) (λ f. by_test (leads_
 pub counted : (s : Text) → length (lead_of s) + length (names (split s)) ≡ length (components s)
 unfolding components
 counted s = omega (arith, heads_lead s, length-append (heads s) (names (split s)))
-
--- The pieces as std splits a slice
-
-pub split_as_std : (s : Text) → slice_split (λ (x : ℕ). eqb x slash) s ≡ split s
-unfolding split on_first
-split_as_std [] = refl
-split_as_std (x ∷ s) = rw (split_as_std s) (ap (cond (eqb x slash) ([] ∷ split s)) (first (split s)))
-  where
-    first : (ps : List Text) → onto_first x ps ≡ on_first x ps
-    first [] = refl
-    first (p ∷ ps) = refl
-
-pub some_as_std : {A : Type 0} (ok : A → Bool) (xs : List A) → list_any ok xs ≡ some_of ok xs
-unfolding some_of
-some_as_std ok [] = refl
-some_as_std ok (x ∷ xs) = rw (some_as_std ok xs) refl

@@ -10,7 +10,7 @@ use lib.Dec.{eqb}
 use borrow.Author.Tests.{eq-eqb, ne_eqb, eqb-true}
 use Rattle.text.specs.Bytes.{Text, slash, dot}
 use Rattle.components.specs.Components.{on_first, split, piece_of, is_skip, starts, leads_dot, lead_of, rest_of, names}
-use Rattle.text.proofs.Picks.{by_test, never}
+use Rattle.text.proofs.Picks.{by_test}
 use Rattle.components.proofs.Pieces.{by_split}
 
 -- The lead of a text
@@ -18,16 +18,11 @@ use Rattle.components.proofs.Pieces.{by_split}
 pub starts_none : (c : ℕ) (s : Text) → length s ≡ 0 → false ≡ starts c s
 unfolding starts
 starts_none c [] h = refl
-starts_none c (x ∷ s) h = never (omega arith)
-
-pub starts_some : (c : ℕ) (s : Text) → (length s ≡ 0 → ⊥) → eqb (get_or s 0 0) c ≡ starts c s
-unfolding starts
-starts_some c [] h = absurd (h refl)
-starts_some c (x ∷ s) h = refl
+starts_none c (x ∷ s) h = absurd (omega arith)
 
 pub starts_yes : (c : ℕ) (s : Text) → 0 < length s → get_or s 0 0 ≡ c → true ≡ starts c s
 unfolding starts
-starts_yes c [] h e = never (omega arith)
+starts_yes c [] h e = absurd (omega arith)
 starts_yes c (x ∷ s) h e = sym (eq-eqb x c e)
 
 pub starts_not : (c : ℕ) (s : Text) → (get_or s 0 0 ≡ c → ⊥) → false ≡ starts c s
@@ -41,30 +36,30 @@ pub ruleset firsts = (starts_none, starts_yes, starts_not)
 pub leads_none : (s : Text) → length s ≡ 0 → false ≡ leads_dot s
 unfolding leads_dot
 leads_none [] h = refl
-leads_none (x ∷ s) h = never (omega arith)
+leads_none (x ∷ s) h = absurd (omega arith)
 
 pub leads_other : (s : Text) → 0 < length s → (get_or s 0 0 ≡ dot → ⊥) → false ≡ leads_dot s
 unfolding leads_dot
-leads_other [] h n = never (omega arith)
+leads_other [] h n = absurd (omega arith)
 leads_other (x ∷ []) h n = rw (ne_eqb x dot n)
 leads_other (x ∷ y ∷ s) h n = rw (ne_eqb x dot n)
 
 pub leads_one : (s : Text) → length s ≡ 1 → get_or s 0 0 ≡ dot → true ≡ leads_dot s
 unfolding leads_dot
-leads_one [] h e = never (omega arith)
+leads_one [] h e = absurd (omega arith)
 leads_one (x ∷ []) h e = rw (eq-eqb x dot e)
-leads_one (x ∷ y ∷ s) h e = never (omega arith)
+leads_one (x ∷ y ∷ s) h e = absurd (omega arith)
 
 pub leads_slash : (s : Text) → 1 < length s → get_or s 0 0 ≡ dot → get_or s 1 0 ≡ slash → true ≡ leads_dot s
 unfolding leads_dot
-leads_slash [] h e f = never (omega arith)
-leads_slash (x ∷ []) h e f = never (omega arith)
+leads_slash [] h e f = absurd (omega arith)
+leads_slash (x ∷ []) h e f = absurd (omega arith)
 leads_slash (x ∷ y ∷ s) h e f = rw (eq-eqb x dot e, eq-eqb y slash f)
 
 pub leads_name : (s : Text) → 1 < length s → (get_or s 1 0 ≡ slash → ⊥) → false ≡ leads_dot s
 unfolding leads_dot
-leads_name [] h n = never (omega arith)
-leads_name (x ∷ []) h n = never (omega arith)
+leads_name [] h n = absurd (omega arith)
+leads_name (x ∷ []) h n = absurd (omega arith)
 leads_name (x ∷ y ∷ s) h n = rw (ne_eqb y slash n, and-false)
 
 -- whether it leads, from its length and its bytes

@@ -1,12 +1,11 @@
 -- Laws of what is written to lent output. Assumes nothing.
-use mathlib.Core.Path.{◌≡◌, refl, sym, ap, subst, ◌∙◌}
+use mathlib.Core.Path.{◌≡◌, refl, sym, ap, ◌∙◌}
 use mathlib.Core.List.{[], ◌∷◌, ◌++◌, append_assoc}
 use Prim.Native.Nat.{ℕ, suc, ◌+◌, ◌-◌, ◌<◌, ◌≤◌, min}
 use native.Mathlib.Omega.{arith}
 use native.Mathlib.Nat.{add-zero, add-suc, suc-add}
-use native.Mathlib.Numerals.{add-one}
-use lib.ListN.{length, get_or, set, drop, take, length-append, drop_of_length-le}
-use lib.Seq.{sets, sets-eq, length-sets, set_out, drop-cons, drop-drop, take_at, length-take-le}
+use lib.ListN.{length, set, drop, take, length-append, drop_of_length-le}
+use lib.Seq.{sets, sets-eq, length-sets, set_out, drop-drop, take_at, length-take-le}
 use lib.ListN.{take-append-drop}
 use borrow.Rule.Slice.PartMut.{put_mid}
 use lib.Dec.{leb}

@@ -1,10 +1,10 @@
 -- Laws of what calls leave of an output: texts written one after the other, and the rest that a loop has still to write. Assumes nothing.
-use Rattle.std.proofs.Common.{◌≡◌, ℕ, ◌+◌, ◌*◌, ◌^◌, ◌<◌, ◌≤◌, [], ◌++◌, length, take, refl, sym, ap, ◌∙◌, arith}
+use Rattle.std.proofs.Common.{◌≡◌, ℕ, ◌+◌, ◌*◌, ◌^◌, ◌<◌, ◌≤◌, [], ◌++◌, length, take, refl, ap, ◌∙◌, arith}
 use Rattle.text.specs.Bytes.{Text}
 use Rattle.emit.specs.declared.Output.{Output}
-use Rattle.emit.specs.Emit.{Room, Emits, Holds}
+use Rattle.emit.specs.Emit.{Room}
 use Rattle.emit.specs.Output.{text_of, Puts, Becomes}
-use Rattle.emit.proofs.Emits.{Owes, owes_all, owes_step, owes_room, owes_end, emits_none, emits_both, emits_length, emits_holds, room_first, room_rest}
+use Rattle.emit.proofs.Emits.{Owes, owes_all, owes_step, owes_room, owes_end, emits_none, emits_both, emits_length, emits_holds, room_rest}
 
 pub puts_none : (o : Output) → Puts [] o o
 puts_none o = record { same = refl; wrote = emits_none o.bytes.now o.at }
@@ -29,6 +29,10 @@ pub record Left (all : Text) (o : Output) (rest : Text) (u : Output) : Type 0 wh
 module _ (all : Text) (o : Output) where
   pub left_all : Left all o all o
   left_all = record { same = refl; owes = owes_all all o.bytes.now o.at }
+
+  -- the rest said otherwise
+  pub left_by : (x y : Text) (u : Output) → x ≡ y → Left all o x u → Left all o y u
+  left_by x y u e p = rw (← e) p
 
   module _ (rest : Text) (u : Output) (p : Left all o rest u) where
     pub left_room : (x y : Text) → rest ≡ x ++ y → Room o.at all → Room u.at x

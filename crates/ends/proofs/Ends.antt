@@ -1,5 +1,6 @@
 -- Laws of a text's last piece and of its pieces up to the last component. Assumes nothing.
 use mathlib.Core.Path.{◌≡◌, refl, sym, ap, ◌∙◌}
+use Rattle.std.proofs.lemmas.Bool.{and_parts}
 use mathlib.Core.List.{List, [], ◌∷◌, ◌++◌}
 use mathlib.Core.Bool.{Bool, true, false, cond}
 use Prim.Native.Nat.{ℕ, suc, ◌+◌, ◌-◌, ◌≤◌, ◌<◌}
@@ -15,7 +16,7 @@ use Rattle.text.specs.Text.{find_last_from, find_last, each_of}
 use Rattle.std.specs.Prelude.{Option, Some, None}
 use Rattle.components.specs.Components.{on_first, split, piece_of, is_skip}
 use Rattle.ends.specs.Ends.{joined, ending, trim_end, all_but_last, last_of, last_piece}
-use Rattle.text.proofs.Picks.{by_test, never, both_left, both_right}
+use Rattle.text.proofs.Picks.{by_test}
 use Rattle.components.proofs.Pieces.{by_split}
 use Rattle.components.proofs.Components.{kept}
 
@@ -46,14 +47,14 @@ module _ (b : ℕ) (s : Text) where
     where
       go : LastIs b s None 0 (find_last b s) → lacks b s ≡ true
       go (keeps p l) = l
-      go (finds i p h g l) = let z : ◌≡◌ {A = ℕ} 0 1 = cc in never (omega arith)
+      go (finds i p h g l) = let z : ◌≡◌ {A = ℕ} 0 1 = cc in absurd (omega arith)
 
   module _ (i : ℕ) (e : Some i ≡ find_last b s) where
     pub last_at : (i < length s) × ((get_or s i 0 ≡ b) × (lacks b (drop (suc i) s) ≡ true))
     last_at = go (last_is b s None 0)
       where
         go : LastIs b s None 0 (find_last b s) → (i < length s) × ((get_or s i 0 ≡ b) × (lacks b (drop (suc i) s) ≡ true))
-        go (keeps p l) = let z : ◌≡◌ {A = ℕ} 0 1 = cc in never (omega arith)
+        go (keeps p l) = let z : ◌≡◌ {A = ℕ} 0 1 = cc in absurd (omega arith)
         go (finds k p h g l) = let q : i ≡ 0 + k = cc in let z : i ≡ k = omega arith in rw z (h, (g, l))
 
     pub last_within : i < length s
@@ -75,7 +76,7 @@ unfolding split on_first lacks
 split_lacks [] h = refl
 split_lacks (x ∷ s) h =
     by_test (eqb x slash)
-    (λ t. let z : false ≡ true = rw t at h in let w : ◌≡◌ {A = ℕ} 0 1 = cc in never (omega arith))
+    (λ t. let z : false ≡ true = rw t at h in let w : ◌≡◌ {A = ℕ} 0 1 = cc in absurd (omega arith))
     (λ f. rw (f, split_lacks s (rw f at h)))
 
 pub joined_split : (s : Text) → joined (split s) ≡ s
@@ -102,9 +103,9 @@ split_bare (x ∷ s) =
 
 pub split_joined : (p : Text) (ps : List Text) → each_of (lacks slash) (p ∷ ps) ≡ true → split (joined (p ∷ ps)) ≡ p ∷ ps
 unfolding each_of joined
-split_joined p [] h = split_lacks p (both_left (lacks slash p) true h)
+split_joined p [] h = split_lacks p (and_parts (lacks slash p) true h).0
 split_joined p (q ∷ ps) h =
-    rw (split_slash p (joined (q ∷ ps)), split_lacks p (both_left (lacks slash p) _ h), split_joined q ps (both_right (lacks slash p) _ h))
+    rw (split_slash p (joined (q ∷ ps)), split_lacks p (and_parts (lacks slash p) _ h).0, split_joined q ps (and_parts (lacks slash p) _ h).1)
 
 -- The last piece
 
@@ -135,14 +136,14 @@ module _ (s : Text) (f : Option ℕ) (e : f ≡ find_last slash s) where
     where
       go : Cut s f → 0 ≡ length s - length (last_piece s)
       go (whole _ p l) = rw l (omega arith)
-      go (parted i g w p l) = let z : ◌≡◌ {A = ℕ} 0 1 = cc in never (omega arith)
+      go (parted i g w p l) = let z : ◌≡◌ {A = ℕ} 0 1 = cc in absurd (omega arith)
 
   module _ (i : ℕ) (n : f ≡ Some i) where
     pub start_some : i + 1 ≡ length s - length (last_piece s)
     start_some = go (cut s f e)
       where
         go : Cut s f → i + 1 ≡ length s - length (last_piece s)
-        go (whole g p l) = let z : ◌≡◌ {A = ℕ} 0 1 = cc in never (omega arith)
+        go (whole g p l) = let z : ◌≡◌ {A = ℕ} 0 1 = cc in absurd (omega arith)
         go (parted k g w p l) = let z : k ≡ i = cc in rw l (omega (arith, length-drop (suc k) s))
 
     pub start_within : i < length s
@@ -176,10 +177,10 @@ trim_keep (q ∷ ps) p h = rw (trim_keep ps p h) (grows ps)
 pub trim_each : (ok : Text → Bool) (ps : List Text) → each_of ok ps ≡ true → each_of ok (trim_end ps) ≡ true
 unfolding trim_end ending each_of
 trim_each ok [] h = refl
-trim_each ok (p ∷ ps) h = go (trim_end ps) (trim_each ok ps (both_right (ok p) _ h)) (is_skip (piece_of p)) refl
+trim_each ok (p ∷ ps) h = go (trim_end ps) (trim_each ok ps (and_parts (ok p) _ h).1) (is_skip (piece_of p)) refl
   where
     one : ok p ≡ true
-    one = both_left (ok p) _ h
+    one = (and_parts (ok p) _ h).0
 
     go : (l : List Text) → each_of ok l ≡ true → (t : Bool) → is_skip (piece_of p) ≡ t → each_of ok (ending p l) ≡ true
     go [] k true e = rw e
@@ -216,19 +217,19 @@ unfolding joined
 ends_split s h = go (trim_end (split s)) (trim_each (lacks slash) (split s) (split_bare s)) h
   where
     go : (ts : List Text) → each_of (lacks slash) ts ≡ true → 0 < length (joined ts) → split (joined ts) ≡ ts
-    go [] w h = never (omega arith)
+    go [] w h = absurd (omega arith)
     go (t ∷ ts) w h = split_joined t ts w
 
 -- it is empty just where there is no component
 some_piece : (p : Text) → is_skip (piece_of p) ≡ false → 0 < length p
 unfolding piece_of
-some_piece [] f = let w : ◌≡◌ {A = ℕ} 0 1 = cc in never (omega arith)
+some_piece [] f = let w : ◌≡◌ {A = ℕ} 0 1 = cc in absurd (omega arith)
 some_piece (x ∷ p) f = omega arith
 
 ending_none : (p : Text) (ts : List Text) → length (joined (ending p ts)) ≡ 0 → ending p ts ≡ []
 unfolding ending joined
-ending_none p [] h = by_test (is_skip (piece_of p)) (λ t. rw t) (λ f. let n : length p ≡ 0 = rw f at h in never (omega (arith, some_piece p f)))
-ending_none p (q ∷ ts) h = never (omega (arith, length-append p (slash ∷ joined (q ∷ ts))))
+ending_none p [] h = by_test (is_skip (piece_of p)) (λ t. rw t) (λ f. let n : length p ≡ 0 = rw f at h in absurd (omega (arith, some_piece p f)))
+ending_none p (q ∷ ts) h = absurd (omega (arith, length-append p (slash ∷ joined (q ∷ ts))))
 
 pub trim_none : (ps : List Text) → length (joined (trim_end ps)) ≡ 0 → trim_end ps ≡ []
 unfolding trim_end
@@ -249,7 +250,7 @@ pub last_more : (s : Text) (i : ℕ) → Some i ≡ find_last slash s → split 
 last_more s i e = go (cut s (Some i) e)
   where
     go : Cut s (Some i) → split s ≡ split (take i s) ++ (drop (i + 1) s ∷ [])
-    go (whole g p l) = let z : ◌≡◌ {A = ℕ} 0 1 = cc in never (omega arith)
+    go (whole g p l) = let z : ◌≡◌ {A = ℕ} 0 1 = cc in absurd (omega arith)
     go (parted k g w p l) = let z : k ≡ i = cc in rw (← z, add-one k) p
 
 -- What is dropped at the end of a text t: a slash, or a slash and a dot
@@ -282,9 +283,9 @@ module _ (t : Text) where
   only_dot l e = one t l e
     where
       one : (t : Text) → length t ≡ 1 → get_or t 0 0 ≡ dot → joined (trim_end (split t)) ≡ []
-      one [] l e = never (omega arith)
+      one [] l e = absurd (omega arith)
       one (x ∷ []) l e = rw e
-      one (x ∷ y ∷ t) l e = never (omega arith)
+      one (x ∷ y ∷ t) l e = absurd (omega arith)
 
   -- all of it is kept, if its last piece is neither empty nor `.`
   keeps_all : is_skip (piece_of (last_piece t)) ≡ false → joined (trim_end (split t)) ≡ t
@@ -317,7 +318,7 @@ module _ (t : Text) where
     where
       none : (t : Text) → length t ≡ 0 → joined (trim_end (split t)) ≡ t
       none [] h = refl
-      none (x ∷ t) h = never (omega arith)
+      none (x ∷ t) h = absurd (omega arith)
 
   pub kept_plain : 0 < length t → (get_or t (length t - 1) 0 ≡ slash → ⊥) → (get_or t (length t - 1) 0 ≡ dot → ⊥) → joined (trim_end (split t)) ≡ t
   kept_plain h n m = ends_kept h n (λ e. absurd (m e))

@@ -12,7 +12,7 @@ use Rattle.std.specs.Prelude.{Option, Some, None}
 use Rattle.components.specs.Components.{split, leads_dot, lead_of}
 use Rattle.ends.specs.Ends.{joined, trim_end, all_but_last, body, without_last, parent_of}
 use Rattle.emit.specs.Emit.{Holds}
-use Rattle.text.proofs.Picks.{by_test, never}
+use Rattle.text.proofs.Picks.{by_test}
 use Rattle.text.proofs.Parts.{from_some}
 use Rattle.components.proofs.Components.{lead_front, lead_le}
 use Rattle.ends.proofs.Ends.{ends, ends_le, trimmed_front, ends_split, trim_none, trim_le, but_last, last_one, last_within, last_more}
@@ -29,7 +29,7 @@ without_cons s p ps = refl
 
 without_some : (s : Text) (ps : List Text) → 0 < length (joined ps) → without_last s ps ≡ lead_of s ++ joined (trim_end (all_but_last ps))
 unfolding joined
-without_some s [] h = never (omega arith)
+without_some s [] h = absurd (omega arith)
 without_some s (p ∷ ps) h = without_cons s p ps
 
 without_one : (s t : Text) → lead_of s ++ joined (trim_end (all_but_last (t ∷ []))) ≡ lead_of s

@@ -1,7 +1,8 @@
 -- Paths that are `./` and one name: what they mean from a directory. Assumes nothing.
 use mathlib.Core.Path.{◌≡◌, refl, sym, ap, ◌∙◌}
+use Rattle.std.proofs.lemmas.Bool.{and_parts}
 use mathlib.Core.List.{List, [], ◌∷◌}
-use mathlib.Core.Bool.{Bool, true, false, not, ◌&&◌, cond, true≢false}
+use mathlib.Core.Bool.{Bool, true, false, not, cond, true≢false}
 use Rattle.std.specs.Prelude.{Option, Some, None, is_some}
 use Prim.Native.Nat.{ℕ, ◌<◌, ◌≤◌}
 use native.Mathlib.Omega.{arith}
@@ -68,14 +69,6 @@ pub ruleset besides = (beside_short, beside_bare, beside_other, beside_dot)
 
 -- what it means
 
-first : (a b : Bool) → (a && b) ≡ true → a ≡ true
-first true b e = refl
-first false b e = e
-
-second : (a b : Bool) → (a && b) ≡ true → b ≡ true
-second true b e = e
-second false b e = absurd (true≢false (sym e))
-
 nothing : (o : Option ℕ) → is_nothing o ≡ true → None ≡ o
 nothing (Some i) e = absurd (true≢false (sym e))
 nothing None e = refl
@@ -90,22 +83,16 @@ beside_path d [] b = absurd (true≢false (sym b))
 beside_path d (x ∷ []) b = absurd (true≢false (sym b))
 beside_path d (x ∷ y ∷ []) b = absurd (true≢false (sym b))
 beside_path d (x ∷ y ∷ z ∷ t) b =
-    let e : x ≡ dot = eqb-true x dot (first (eqb x dot) _ b) in
-    let l = second (eqb x dot) _ b in
-    let f : y ≡ slash = eqb-true y slash (first (eqb y slash) _ l) in
-    let m = second (eqb y slash) _ l in
-    let g : eqb z dot ≡ false = not-true (eqb z dot) (first (not (eqb z dot)) _ m) in
-    rw (e, f) (beside_means d (z ∷ t) (nothing (text.find slash (z ∷ t)) (second (not (eqb z dot)) _ m)) (piece_name (z ∷ t) (omega arith) (eqb-false z dot g)))
+    let e : x ≡ dot = eqb-true x dot (and_parts (eqb x dot) _ b).0 in
+    let l = (and_parts (eqb x dot) _ b).1 in
+    let f : y ≡ slash = eqb-true y slash (and_parts (eqb y slash) _ l).0 in
+    let m = (and_parts (eqb y slash) _ l).1 in
+    let g : eqb z dot ≡ false = not-true (eqb z dot) (and_parts (not (eqb z dot)) _ m).0 in
+    rw (e, f) (beside_means d (z ∷ t) (nothing (text.find slash (z ∷ t)) (and_parts (not (eqb z dot)) _ m).1) (piece_name (z ∷ t) (omega arith) (eqb-false z dot g)))
 
 -- the record that is found so
 
 module _ (paths : List Text) (dir s : Text) where
-  pub besides_none : (b : Bool) → b ≡ is_beside s → b ≡ false → None ≡ cond (is_beside s) (find (push_of dir (drop 2 s)) paths) None
-  besides_none b e f = rw (← e, f) refl
-
-  pub besides_named : (b : Bool) → b ≡ is_beside s → b ≡ true → (name : Text) → name ≡ drop 2 s → (r : Option ℕ) → r ≡ find (push_of dir name) paths → r ≡ cond (is_beside s) (find (push_of dir (drop 2 s)) paths) None
-  besides_named b e y name i r f = f ∙ ap (λ (t : Text). find (push_of dir t) paths) i ∙ sym (rw (← e, y) refl)
-
   pub meant_beside : (r : Option ℕ) → r ≡ cond (is_beside s) (find (push_of dir (drop 2 s)) paths) None → (i : ℕ) → r ≡ Some i → Some i ≡ locate paths (normalize_with dir s)
   meant_beside r e i y =
       by_test (is_beside s)

@@ -7,22 +7,21 @@ use lib.ListN.{length, get_or, take, drop, get_or-map, length-map}
 use Rattle.text.specs.Bytes.{Text}
 use Rattle.ends.specs.Ends.{parent_of}
 use Rattle.join.specs.Join.{normalize_with}
-use Rattle.book.specs.Command.{begin, extends, reference, target}
+use Rattle.book.specs.Command.{extends, reference, target}
 use Rattle.book.specs.declared.Cmd.{Cmd}
-use Rattle.book.specs.Record.{is, only, first_of, single, strings, record_path_of}
+use Rattle.book.specs.Record.{is, only, strings, record_path_of}
 use Rattle.book.specs.Rules.{text_of, limits}
-use Rattle.record.proofs.Good.{good_short}
+use Rattle.record.proofs.Good.{path_short}
 use Rattle.record.specs.Lists.{strings_left}
 use Rattle.record.specs.declared.lists.Strings.{Strings}
 use Rattle.record.specs.declared.place.Record.{Record}
 use Rattle.book.specs.Index as index
 use Rattle.book.specs.Index.{begin_of, index_at, path_in}
 use Rattle.book.specs.Find.{locate}
-use Rattle.book.specs.Sound.{All, nil, cons, Good, Sound}
+use Rattle.book.specs.Sound.{All, Sound}
 use Rattle.records.specs.Tables.{paths_in}
 use Rattle.records.proofs.Paths.{path_row}
 use Rattle.ends.proofs.Parents.{parent_le}
-use Rattle.text.proofs.Picks.{by_test}
 use Rattle.tsconfig.specs.Parsed.{Parsed, parsed, parse}
 use Rattle.tsconfig_resolver.specs.Line as line
 use Rattle.tsconfig_resolver.specs.Find.{blank, record_at, path_at, paths_of, meant, entry}
@@ -37,12 +36,6 @@ unfolding entry_at entry meant
 entry_is rs c [] = refl
 entry_is rs c (x ∷ s) = refl
 
--- a record's path is short
-path_short : (text : Text) (r : List Cmd) → All (Good text) r → length (record_path_of text r) ≤ 512
-unfolding record_path_of single first_of only
-path_short text [] nil = omega arith
-path_short text (c ∷ r) (cons g h) = by_test (is begin c) (λ t. rw t (good_short text c (rw (g.range, g.string) refl))) (λ f. rw f (path_short text r h))
-
 module _ (b : CheckedBook) where
   pub few_records : length b.paths.rows.now ≤ 64
   few_records = omega (arith, b.listed.size, b.records.few)
@@ -51,9 +44,6 @@ module _ (b : CheckedBook) where
   module _ (c : ℕ) (inside : c < length b.paths.rows.now) where
     pub inside_records : c < length (records_in b)
     inside_records = omega (arith, inside, b.listed.size)
-
-    pub begin_there : c < length b.paths.rows.now
-    begin_there = omega (arith, inside, b.listed.size, b.records.there)
 
     pub record_sound : Sound b.paths.text.now (index.record_at b.commands.now (begin_of b.paths.rows.now c))
     record_sound = b.records.sound c inside_records

@@ -3,12 +3,12 @@ use mathlib.Core.Path.{◌≡◌, refl, sym, ap, subst, ◌∙◌}
 use mathlib.Core.List.{List, [], ◌∷◌, ◌++◌, map, append_assoc, append-nil, map-append}
 use mathlib.Core.Bool.{Bool, true, false, cond, ◌||◌}
 use Rattle.std.specs.Prelude.{Option, Some, None}
-use Prim.Native.Nat.{ℕ, suc, ◌+◌, ◌<◌, ◌≤◌}
+use Prim.Native.Nat.{ℕ, ◌+◌, ◌<◌, ◌≤◌}
 use native.Mathlib.Omega.{arith}
 use native.Mathlib.Numerals.{add-one}
 use lib.Dec.{eqb}
-use lib.ListN.{length, get_or, set, take, drop, length-set, drop_of_length-le}
-use lib.Seq.{drop-cons, take-suc-set}
+use lib.ListN.{length, get_or, set, take, drop, length-set}
+use lib.Seq.{take-suc-set}
 use borrow.Author.Tests.{eq-eqb, ne_eqb, eqb-false}
 use Rattle.text.specs.Bytes.{Text, slash, dot}
 use Rattle.text.proofs.Picks.{by_test}
@@ -23,7 +23,6 @@ use Rattle.tsconfig_resolver.specs.Load.{unread}
 use Rattle.tsconfig_resolver.specs.Find.{reached}
 use Rattle.rows.specs.declared.CheckedBook.{CheckedBook}
 use Rattle.entries.specs.declared.lists.Entry.{Entry}
-use Rattle.entries.specs.declared.lists.Entry.TheVariants.{Empty}
 use Rattle.entries.specs.Entries.{entry_of, entries_of, entry_at, Inside}
 
 -- One entry
@@ -83,20 +82,6 @@ leads_inside t dir s e q = record { inside = λ i l. go s i (sym q ∙ ap entry_
 pub record Unread (es : List Entry) (j : ℕ) : Type 0 where
   pub small : j ≤ length es
   pub same : unread (entries_of es) ≡ unread (entries_of (drop j es))
-
-pub unread_start : (es : List Entry) → Unread es 0
-unread_start es = record { small = omega arith; same = refl }
-
-module _ (es : List Entry) (j : ℕ) (r : Unread es j) where
-  module _ (h : j < length es) (e : Entry) (i : get_or es j Empty ≡ e) where
-    pub unread_next : unread (entries_of es) ≡ unread (entry_of e ∷ entries_of (drop (suc j) es))
-    unread_next = r.same ∙ ap (λ (l : List Entry). unread (entries_of l)) (drop-cons es j Empty h) ∙ ap (λ (x : Entry). unread (entry_of x ∷ entries_of (drop (suc j) es))) i
-
-    pub unread_on : unread (entry_of e ∷ entries_of (drop (suc j) es)) ≡ unread (entries_of (drop (suc j) es)) → Unread es (j + 1)
-    unread_on p = record { small = omega (arith, h); same = unread_next ∙ p ∙ ap (λ (k : ℕ). unread (entries_of (drop k es))) (sym (add-one j)) }
-
-  pub unread_all : length es ≤ j → None ≡ unread (entries_of es)
-  unread_all h = sym (r.same ∙ ap (λ (l : List Entry). unread (entries_of l)) (drop_of_length-le es h))
 
 -- Parts of a list
 

@@ -1,8 +1,10 @@
 -- The ways out of the fault of a command. Assumes nothing.
 use mathlib.Core.Path.{◌≡◌, refl, sym, ◌∙◌}
+use Rattle.std.proofs.lemmas.Option.{none-some}
+use Rattle.std.proofs.lemmas.Bool.{and_parts}
 use mathlib.Core.List.{List, []}
-use mathlib.Core.Bool.{Bool, true, false, ◌&&◌, cond}
-use Rattle.std.specs.Prelude.{Option, Some, None}
+use mathlib.Core.Bool.{Bool, true, false, cond}
+use Rattle.std.specs.Prelude.{Some, None}
 use Prim.Native.Nat.{ℕ, ◌+◌, ◌≤◌}
 use lib.ListN.{length}
 use native.Mathlib.Omega.{arith}
@@ -16,16 +18,9 @@ use Rattle.book.specs.Command.{begin, key}
 use Rattle.book.specs.Rules.{in_order, good_string, too_many, given_before, clash, fault_of, text_of}
 use Rattle.book.specs.State.{meets}
 
-pub nothing : {A : Type 0} {f : ℕ} → ◌≡◌ {A = Option ℕ} None (Some f) → A
-nothing e = let z : ⊥ = cc in absurd z
-
 pub good_within : (text : Text) (c : Cmd) → good_string text c ≡ true → c.start + c.len ≤ length text
 unfolding good_string
-good_within text c e = leb-true (c.start + c.len) (length text) (left (leb (c.start + c.len) (length text)) _ e)
-  where
-    left : (a b : Bool) → (a && b) ≡ true → a ≡ true
-    left true b e = refl
-    left false b e = e
+good_within text c e = leb-true (c.start + c.len) (length text) (and_parts (leb (c.start + c.len) (length text)) _ e).0
 
 module _ (text : Text) (count : ℕ → ℕ) (last n : ℕ) (keys paths : List Text) (c : Cmd) where
   pub fault_order : (r : Bool) → r ≡ in_order count last c → r ≡ false → Some 3 ≡ fault_of text count last n keys paths c
@@ -67,8 +62,8 @@ module _ (text : Text) (count : ℕ → ℕ) (last n : ℕ) (keys paths : List T
       (λ d. by_test (eqb c.op begin)
       (λ g. let y : cond (some_of (clash (text_of text c)) paths) (Some 6) None ≡ Some f = rw (a, b, d, g) at e in rw (a, b, d, g) y)
       (λ g. by_test (eqb c.op key)
-      (λ k. let y : None ≡ Some f = rw (a, b, d, g, k) at e in nothing y)
-      (λ k. let y : None ≡ Some f = rw (a, b, d, g, k) at e in nothing y))))
+      (λ k. let y : None ≡ Some f = rw (a, b, d, g, k) at e in absurd (none-some _ y))
+      (λ k. let y : None ≡ Some f = rw (a, b, d, g, k) at e in absurd (none-some _ y)))))
       (λ b. let y : Some 4 ≡ Some f = rw (a, b) at e in rw (a, b) y))
       (λ a. let y : Some 3 ≡ Some f = rw a at e in rw a y)
 
@@ -79,13 +74,13 @@ module _ (text : Text) (count : ℕ → ℕ) (last n : ℕ) (keys paths : List T
       by_test (in_order count last c)
       (λ a. by_test (good_string text c)
       (λ b. by_test (too_many count last c n)
-      (λ d. let y : Some 5 ≡ None = rw (a, b, d) at z in nothing (sym y))
+      (λ d. let y : Some 5 ≡ None = rw (a, b, d) at z in absurd (none-some _ (sym y)))
       (λ d. by_test (eqb c.op begin)
       (λ g. by_test (some_of (clash (text_of text c)) paths)
-      (λ h. let y : Some 6 ≡ None = rw (a, b, d, g, h) at z in nothing (sym y))
+      (λ h. let y : Some 6 ≡ None = rw (a, b, d, g, h) at z in absurd (none-some _ (sym y)))
       (λ h. let o : c.op ≡ begin = eqb-true c.op begin g in rw (a, b, d, g, h, ne_eqb c.op key (λ q. absurd (omega (arith, o, q)))) refl))
       (λ g. by_test (eqb c.op key)
       (λ k. rw (a, b, d, g, k) refl)
       (λ k. rw (a, b, d, g, k) refl))))
-      (λ b. let y : Some 4 ≡ None = rw (a, b) at z in nothing (sym y)))
-      (λ a. let y : Some 3 ≡ None = rw a at z in nothing (sym y))
+      (λ b. let y : Some 4 ≡ None = rw (a, b) at z in absurd (none-some _ (sym y))))
+      (λ a. let y : Some 3 ≡ None = rw a at z in absurd (none-some _ (sym y)))

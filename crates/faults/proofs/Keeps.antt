@@ -1,5 +1,6 @@
 -- The rules of order over the state that the code keeps, and that it says what the definition reads off the commands before. Assumes nothing.
 use mathlib.Core.Path.{◌≡◌, refl, sym, ap, subst, ◌∙◌}
+use Rattle.std.proofs.lemmas.Bool.{and_parts}
 use mathlib.Core.List.{List, [], ◌∷◌}
 use mathlib.Core.Bool.{Bool, true, false, not, ◌&&◌, ◌||◌, cond, true≢false, and-false}
 use Prim.Native.Nat.{ℕ, zero, suc, ◌+◌, ◌-◌, ◌≤◌, ◌<◌}
@@ -29,10 +30,6 @@ limits_eight k h e =
     leb-true 8 (get_or limits k 0)
     (let z = T_true (eqb (get_or limits k 0) 0 || leb 8 (get_or limits k 0)) (at_each (λ i x. eqb x 0 || leb 8 x) limits tt k h) in rw e at z)
 
-and_left : (a b : Bool) → (a && b) ≡ true → a ≡ true
-and_left true b e = refl
-and_left false b e = e
-
 -- an entry of a table
 pub entry_some : (n : ℕ) {k : ℕ} → entry n ≡ Some k → (k ≡ n) × (k ≡ 0 → ⊥)
 entry_some n {k} e =
@@ -53,7 +50,7 @@ module _ (count : ℕ → ℕ) (last : ℕ) (c : Cmd) where
 
   pub ranged : in_order count last c ≡ true → in_range c ≡ true
   unfolding in_order
-  ranged o = and_left (in_range c) _ o
+  ranged o = (and_parts (in_range c) _ o).0
 
 -- a command's slot, where it has one
 module _ (c : Cmd) where
@@ -75,7 +72,7 @@ module _ (c : Cmd) where
   unfolding slot in_range
   slot_under h e =
       by_test (eqb c.op flag)
-      (λ y. let z : (leb c.id 10 && leb c.value 1) ≡ true = rw y at e in rw y (omega (arith, leb-true c.id 10 (and_left (leb c.id 10) (leb c.value 1) z))))
+      (λ y. let z : (leb c.id 10 && leb c.value 1) ≡ true = rw y at e in rw y (omega (arith, leb-true c.id 10 (and_parts (leb c.id 10) (leb c.value 1) z).0)))
       (λ y. by_test (eqb c.op text_option)
       (λ t. let z : leb c.id 6 ≡ true = rw (y, t) at e in rw (y, t) (omega (arith, leb-true c.id 6 z)))
       (λ t. rw (y, t) (omega (arith, h))))

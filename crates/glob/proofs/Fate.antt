@@ -1,7 +1,8 @@
 -- How a verdict follows from that on what comes after: the laws by which the matcher gives up early. Assumes nothing.
 use mathlib.Core.Path.{◌≡◌, refl, sym, ◌∙◌}
+use Rattle.std.proofs.lemmas.Bool.{or_parts, or_from}
 use mathlib.Core.List.{[], ◌∷◌}
-use mathlib.Core.Bool.{Bool, true, false, ◌&&◌, ◌||◌, false≢true, true≢false}
+use mathlib.Core.Bool.{Bool, true, false, ◌&&◌, false≢true, true≢false}
 use Prim.Native.Nat.{ℕ, suc, ◌+◌, ◌-◌, ◌≤◌}
 use native.Mathlib.Omega.{arith}
 use lib.ListN.{drop}
@@ -17,17 +18,6 @@ use Rattle.glob.specs.declared.Verdict.TheVariants.{Yes, No, Stop, Later, Never}
 
 -- Booleans
 
-or_left : (a b : Bool) → (a || b) ≡ false → a ≡ false
-or_left true b h = h
-or_left false b h = refl
-
-or_right : (a b : Bool) → (a || b) ≡ false → b ≡ false
-or_right true b h = absurd (true≢false h)
-or_right false b h = h
-
-or_none : (a b : Bool) → a ≡ false → b ≡ false → (a || b) ≡ false
-or_none a b ha hb = rw (ha, hb)
-
 -- the second of two, if the first holds
 and_when : (a b : Bool) → (a ≡ true → b ≡ false) → (a && b) ≡ false
 and_when true b f = f refl
@@ -42,11 +32,11 @@ module _ (ok : ℕ → Bool) (P : Text → Bool) where
   pub after_here : (s : Text) → after ok P s ≡ false → P s ≡ false
   unfolding after
   after_here [] h = h
-  after_here (x ∷ s) h = or_left _ _ h
+  after_here (x ∷ s) h = (or_parts _ _ h).0
 
   after_tail : (x : ℕ) (s : Text) → after ok P (x ∷ s) ≡ false → ok x ≡ true → after ok P s ≡ false
   unfolding after
-  after_tail x s h = and_of (ok x) (after ok P s) (or_right (P (x ∷ s)) _ h)
+  after_tail x s h = and_of (ok x) (after ok P s) (or_parts (P (x ∷ s)) _ h).1
 
   after_yes : (s : Text) → P s ≡ true → after ok P s ≡ true
   unfolding after
@@ -55,14 +45,14 @@ module _ (ok : ℕ → Bool) (P : Text → Bool) where
 
   after_cons : (x : ℕ) (s : Text) → P (x ∷ s) ≡ false → (ok x ≡ true → after ok P s ≡ false) → after ok P (x ∷ s) ≡ false
   unfolding after
-  after_cons x s h k = or_none _ _ h (and_when _ _ k)
+  after_cons x s h k = or_from _ _ h (and_when _ _ k)
 
   -- one byte in front of what fails after some bytes
   after_eat : (f : ℕ → Bool) → ((y : ℕ) → ok y ≡ false → f y ≡ false) → (x : ℕ) (s : Text) → after ok P s ≡ false → after ok (eat f P) (x ∷ s) ≡ false
   unfolding after eat
-  after_eat f imp x [] h = or_none (f x && P []) (ok x && false) (and_when (f x) (P []) (λ _. h)) (and_when (ok x) false (λ _. refl))
+  after_eat f imp x [] h = or_from (f x && P []) (ok x && false) (and_when (f x) (P []) (λ _. h)) (and_when (ok x) false (λ _. refl))
   after_eat f imp x (y ∷ s) h =
-      or_none (f x && P (y ∷ s)) (ok x && after ok (eat f P) (y ∷ s)) (and_when (f x) (P (y ∷ s)) (λ _. after_here (y ∷ s) h))
+      or_from (f x && P (y ∷ s)) (ok x && after ok (eat f P) (y ∷ s)) (and_when (f x) (P (y ∷ s)) (λ _. after_here (y ∷ s) h))
       (and_when (ok x) (after ok (eat f P) (y ∷ s)) (λ _. by_test (ok y) (λ e. after_eat f imp y s (after_tail y s h e)) (λ e. rw (imp y e, e))))
 
 -- fewer bytes may be passed over
@@ -88,7 +78,7 @@ never_false f y e = absurd (true≢false e)
 module _ (P : Text → Bool) (s : Text) where
   pub dirs_here : after_dirs P s ≡ false → P s ≡ false
   unfolding after_dirs
-  dirs_here h = or_left (P s) _ h
+  dirs_here h = (or_parts (P s) _ h).0
 
   eat_no : (f : ℕ → Bool) (x : ℕ) → P s ≡ false → eat f P (x ∷ s) ≡ false
   unfolding eat
@@ -158,21 +148,21 @@ module _ (Q : Text → Bool) where
 module _ (Q : Text → Bool) where
   pub never_dirs : (s : Text) → after any_byte Q s ≡ false → after_dirs Q s ≡ false
   unfolding after_dirs after eat
-  never_dirs [] h = or_none (Q []) false h refl
-  never_dirs (x ∷ s) h = or_none (Q (x ∷ s)) _ (after_here any_byte Q (x ∷ s) h) (after_eat any_byte Q is_slash (never_false is_slash) x s (after_tail any_byte Q x s h refl))
+  never_dirs [] h = or_from (Q []) false h refl
+  never_dirs (x ∷ s) h = or_from (Q (x ∷ s)) _ (after_here any_byte Q (x ∷ s) h) (after_eat any_byte Q is_slash (never_false is_slash) x s (after_tail any_byte Q x s h refl))
 
   slashes : (s : Text) → after any_byte (eat is_slash Q) s ≡ false → after any_byte (eat is_slash (after_dirs Q)) s ≡ false
   unfolding after eat after_dirs
   slashes [] h = refl
   slashes (x ∷ s) h =
-      let later : after any_byte (eat is_slash Q) s ≡ false = or_right (is_slash x && Q s) _ h in
-      or_none (is_slash x && after_dirs Q s) _
-      (and_when (is_slash x) (after_dirs Q s) (λ e. or_none (Q s) _ (and_of (is_slash x) (Q s) (or_left (is_slash x && Q s) _ h) e) later))
+      let later : after any_byte (eat is_slash Q) s ≡ false = (or_parts (is_slash x && Q s) _ h).1 in
+      or_from (is_slash x && after_dirs Q s) _
+      (and_when (is_slash x) (after_dirs Q s) (λ e. or_from (Q s) _ (and_of (is_slash x) (Q s) (or_parts (is_slash x && Q s) _ h).0 e) later))
       (slashes s later)
 
   dirs_dirs : (s : Text) → after_dirs Q s ≡ false → after_dirs (after_dirs Q) s ≡ false
   unfolding after_dirs
-  dirs_dirs s h = or_none (after_dirs Q s) _ h (slashes s (or_right (Q s) _ h))
+  dirs_dirs s h = or_from (after_dirs Q s) _ h (slashes s (or_parts (Q s) _ h).1)
 
   pub dirs_decided : (s : Text) (v : Verdict) → is_decided v ≡ true → Sound v Q s → Sound (dirs_of v) (after_dirs Q) s
   unfolding after_dirs
@@ -213,7 +203,7 @@ module _ (Q : Text → Bool) where
 
   pub dirs_none : (s : Text) → None ≡ find_from slash 0 s → Q s ≡ false → Sound Later (after_dirs Q) s
   unfolding after_dirs
-  dirs_none s e h = dirs_dirs s (or_none (Q s) _ h (slash_none s 0 (sym e)))
+  dirs_none s e h = dirs_dirs s (or_from (Q s) _ h (slash_none s 0 (sym e)))
 
 dirs_past : (Q : Text → Bool) (s : Text) → Q s ≡ false → after_dirs Q s ≡ after any_byte (eat is_slash Q) s
 unfolding after_dirs
@@ -232,7 +222,7 @@ module _ (Q : Text → Bool) (s : Text) (i : ℕ) (e : Some i ≡ find_from slas
   dirs_again : after_dirs (after_dirs Q) (drop (i + 1) s) ≡ false → after_dirs (after_dirs Q) s ≡ false
   unfolding after_dirs
   dirs_again k =
-      or_none (after_dirs Q s) _ (dirs_same ∙ dirs_here (after_dirs Q) (drop (i + 1) s) k) (slash_skip (after_dirs Q) ∙ k)
+      or_from (after_dirs Q s) _ (dirs_same ∙ dirs_here (after_dirs Q) (drop (i + 1) s) k) (slash_skip (after_dirs Q) ∙ k)
 
   pub dirs_on : (v : Verdict) → Sound v (after_dirs Q) (drop (i + 1) s) → Sound (dirs_of v) (after_dirs Q) s
   dirs_on Yes k = dirs_same ∙ k

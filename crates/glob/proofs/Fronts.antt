@@ -8,35 +8,21 @@ use native.Mathlib.Omega.{arith}
 use lib.ListN.{length, get_or, take, drop, length-drop, drop_of_length-le}
 use lib.Seq.{drop-cons, take-suc}
 use lib.Dec.{eqb}
-use borrow.Author.Tests.{eq-eqb, ne_eqb, eqb-true, eqb-false, not-false}
+use borrow.Author.Tests.{ne_eqb, eqb-true, eqb-false, not-false}
 use mathlib.Core.List.{reverse}
 use Rattle.std.specs.List.{fold}
 use Rattle.std.proofs.lemmas.List.{reverse-append}
 use Rattle.std.proofs.lemmas.List.Sums.{fold-append}
 use Rattle.text.specs.Bytes.{Text, slash, star, question}
 use Rattle.glob.specs.Glob.{glob_of, eat, after, after_dirs, is_empty, no_slash, any_byte, after_star, Run, Dirs, Rest}
-use Rattle.glob.specs.Verdicts.{Sound, FrontIs, Ahead, AtStar, Leads, inside_of, past_of, behind_of, passed_of, takes_of}
+use Rattle.glob.specs.Verdicts.{Sound, Ahead, AtStar, Leads, behind_of, passed_of, takes_of}
 use Rattle.glob.proofs.Tokens.{glob_end, glob_byte, glob_run, glob_dirs, glob_rest, dirs_room}
 use Rattle.text.proofs.Picks.{by_test}
 use Rattle.glob.proofs.Fate.{miss, inside_sound, past_sound}
-use Rattle.glob.specs.declared.Front.{Front}
-use Rattle.glob.specs.declared.Front.TheVariants.{Known, Star, Stars}
 use Rattle.glob.specs.declared.Verdict.{Verdict}
 use Rattle.glob.specs.declared.Verdict.TheVariants.{Yes, No, Never}
 
 -- One byte
-
-pub takes_question : (c x : ℕ) → c ≡ question → not (eqb x slash) ≡ takes_of c x
-takes_question c x e = rw (eq-eqb c question e)
-
-pub takes_itself : (c x : ℕ) → (c ≡ question → ⊥) → eqb x c ≡ takes_of c x
-takes_itself c x n = rw (ne_eqb c question n)
-
-pub behind_slash : (x : ℕ) (v : Verdict) → x ≡ slash → past_of v ≡ behind_of x v
-behind_slash x v e = rw (eq-eqb x slash e)
-
-pub behind_other : (x : ℕ) (v : Verdict) → (x ≡ slash → ⊥) → inside_of v ≡ behind_of x v
-behind_other x v n = rw (ne_eqb x slash n)
 
 -- a slash is taken by a slash alone
 takes_slash : (b : Bool) (c x : ℕ) → cond b (no_slash x) (eqb x c) ≡ true → x ≡ slash → c ≡ slash
@@ -168,26 +154,3 @@ module _ (p s : Text) (i : ℕ) (a : AtStar i p s) (q : Text) (e : q ≡ drop (i
 
     pub rest_yes : (length s ≡ i → ⊥) → Sound Yes (glob_of p) s
     rest_yes n = let k = some_left p s i a.ahead (λ q. n (sym q)) in yes_known p s i a.ahead (rw (rest_is, drop-cons s i 0 k))
-
--- What `reach` answered
-
-module _ (f : Front) (p s : Text) (h : FrontIs f p s) where
-  pub is_known : (v : Verdict) → f ≡ Known v → Sound v (glob_of p) s
-  is_known v e = rw e at h
-
-  pub is_star : (k : ℕ) → f ≡ Star k → Leads 1 k (after no_slash) p s
-  is_star k e = rw e at h
-
-  pub is_stars : (k : ℕ) → f ≡ Stars k → Leads 3 k after_dirs p s
-  is_stars k e = rw e at h
-
--- a token of n bytes at k: rest is what follows it in the pattern, left what follows the first k bytes of the path
-module _ (n k : ℕ) (Q : (Text → Bool) → Text → Bool) (p s : Text) (h : Leads n k Q p s) (rest left : Text) (d : rest ≡ drop (k + n) p) (e : left ≡ drop k s) where
-  -- a try at i has less of both
-  pub leads_falls : 0 < n → (i : ℕ) (here : Text) → here ≡ drop i left → length rest + length here < length p + length s
-  leads_falls some i here g =
-      let r : k + n ≤ length p = h.room in
-      omega (arith, ap length d, ap length e, ap length g, length-drop (k + n) p, length-drop k s, length-drop i left)
-
-  pub leads_whole : (v u : Verdict) → Sound v (Q (glob_of rest)) left → u ≡ passed_of (take k s) v → Sound u (glob_of p) s
-  leads_whole v u m q = rw q (h.whole v (rw (d, e) at m))

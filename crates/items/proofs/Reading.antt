@@ -23,8 +23,6 @@ use Rattle.book.specs.Steps.{step_at}
 use Rattle.book.proofs.Steps.{decoded, decode_step, Moved, step_moves}
 use Rattle.std.specs.Prelude.{Option}
 use Rattle.std.specs.List.{find}
-use Rattle.items.specs.declared.Targets.{Targets}
-use Rattle.items.specs.Runs.{NextTarget, behind}
 use Rattle.items.specs.Items.{offset_of, paired, item_to, item_by, item_of, option_item, target_item}
 
 -- What is decoded, step by step
@@ -398,19 +396,3 @@ named_as_some op s at (Some (c, next)) i = sym (some_got (is op) s at c next i)
 
 pub target_less : (s : Text) (at : ℕ) (r : Option (Cmd × ℕ)) → r ≡ target_item (read_from s at) → (p : Cmd × ℕ) → r ≡ Some p → length s - p.1 < length s - at
 target_less s at r i (c, next) e = let g = aimed s at c next (sym e ∙ i) in omega (arith, g.forth, g.within)
-
--- The loop over targets, whose commands are these
-
-module _ {s : Text} {it : Targets} (o : it.commands.now ≡ s) {r : Option (Cmd × ℕ)} {t : Targets} (n : NextTarget it r t) where
-  pub aimed_at : r ≡ target_item (read_from s it.at)
-  aimed_at = rw (← o) n.item
-
-  module _ {c : Cmd} {next : ℕ} (e : r ≡ Some (c, next)) where
-    shifted : t ≡ record it { at = next }
-    shifted = n.rest ∙ ap (λ (q : Option (Cmd × ℕ)). record it { at = behind it.at q }) e
-
-    pub aims_on : t.commands.now ≡ s
-    aims_on = ap (λ (i : Targets). i.commands.now) shifted ∙ o
-
-    pub aim_on : t.at ≡ next
-    aim_on = ap (λ (i : Targets). i.at) shifted

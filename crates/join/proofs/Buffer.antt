@@ -2,7 +2,7 @@
 use mathlib.Core.Path.{◌≡◌, sym, subst}
 use mathlib.Core.List.{[], ◌∷◌, ◌++◌}
 use mathlib.Core.Bool.{Bool, true, false, not}
-use Prim.Native.Nat.{ℕ, ◌+◌, ◌-◌, ◌*◌, ◌^◌, ◌≤◌, ◌<◌}
+use Prim.Native.Nat.{ℕ, ◌+◌, ◌-◌, ◌≤◌, ◌<◌}
 use native.Mathlib.Omega.{arith}
 use lib.ListN.{length, get_or, length-append}
 use lib.Dec.{eqb}
@@ -12,7 +12,7 @@ use Rattle.emit.specs.Emit.{Room}
 use Rattle.emit.specs.Output.{text_of, Puts, Becomes}
 use Rattle.emit.specs.declared.Output.{Output}
 use Rattle.emit.proofs.Emits.{room_first}
-use Rattle.emit.proofs.Outputs.{puts_none, puts_both, puts_room, puts_text, room_within}
+use Rattle.emit.proofs.Outputs.{puts_none, puts_both, puts_room, puts_text}
 use Rattle.components.specs.Components.{starts}
 use Rattle.join.specs.Join.{joint, push_of, join_of, slash_if}
 use Rattle.text.proofs.Picks.{by_test}
@@ -70,9 +70,6 @@ module _ (k : Bool) (s : Text) where
 module _ (o : Output) (name : Text) (h : o.at + 1 + length name ≤ length o.bytes.now) (k : Bool) where
   push_fits : o.at + length (slash_if k ++ name) ≤ length o.bytes.now
   push_fits = omega (arith, h, length-append (slash_if k) name, slash_size k)
-
-  pub push_room : length o.bytes.now * 1 < 2 ^ 63 → Room o.at (slash_if k ++ name)
-  push_room b = room_within o.bytes.now o.at (slash_if k ++ name) push_fits b
 
   pub push_becomes : (u : Output) → joint (text_of o) ≡ slash_if k → Puts (slash_if k ++ name) o u → Becomes (push_of (text_of o) name) o u
   unfolding push_of

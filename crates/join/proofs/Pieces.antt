@@ -1,9 +1,10 @@
 -- Laws of a subpath's pieces, joined one after the other. Assumes nothing.
 use Rattle.std.proofs.Common.{◌≡◌, ℕ, suc, ◌+◌, ◌<◌, ◌≤◌, List, [], ◌∷◌, ◌++◌, Bool, true, false, eqb, length, take, drop, get_or, refl, sym, ap, ◌∙◌, arith, add-one, length-append, length-take}
+use Rattle.components.proofs.Pieces.{split_some}
 use lib.ListN.{drop_of_length-le}
 use lib.Seq.{take-take, length-take-le, drop-cons}
 use Rattle.text.specs.Bytes.{Text, slash}
-use Rattle.text.proofs.Picks.{by_test, never}
+use Rattle.text.proofs.Picks.{by_test}
 use Rattle.emit.specs.Emit.{Holds}
 use Rattle.emit.specs.Output.{text_of, Puts, Cut, Becomes}
 use Rattle.emit.specs.declared.Output.{Output}
@@ -58,24 +59,15 @@ spread (p ∷ ps) = length p + 1 + spread ps
 
 spread_first : (x : ℕ) (q : List Text) → 0 < length q → spread (on_first x q) ≡ spread q + 1
 unfolding on_first
-spread_first x [] h = never (omega arith)
+spread_first x [] h = absurd (omega arith)
 spread_first x (p ∷ ps) h = omega arith
-
-some_piece : (s : Text) → 0 < length (split s)
-unfolding split on_first
-some_piece [] = omega arith
-some_piece (x ∷ s) = by_test (eqb x slash) (λ t. rw t (omega arith)) (λ f. rw f (grown (split s)))
-  where
-    grown : (q : List Text) → 0 < length (on_first x q)
-    grown [] = omega arith
-    grown (p ∷ ps) = omega arith
 
 pub spread_split : (s : Text) → spread (split s) ≡ length s + 1
 unfolding split
 spread_split [] = omega arith
 spread_split (x ∷ s) =
     by_test (eqb x slash) (λ t. rw t (omega (arith, spread_split s)))
-    (λ f. rw f (omega (arith, spread_first x (split s) (some_piece s), spread_split s)))
+    (λ f. rw f (omega (arith, spread_first x (split s) (split_some s), spread_split s)))
 
 -- what is left to walk, once n of the pieces are walked from the path o: the loop's invariant
 pub record Walks (ps : List Text) (o : Output) (n : ℕ) (u : Output) : Type 0 where
@@ -122,7 +114,7 @@ module _ (ps : List Text) (o : Output) where
 norm_none : (base sub : Text) → length sub ≡ 0 → normalize_with base sub ≡ []
 unfolding normalize_with
 norm_none base [] h = refl
-norm_none base (x ∷ s) h = never (omega arith)
+norm_none base (x ∷ s) h = absurd (omega arith)
 
 abs : (base s : Text) → starts slash s ≡ true → normalize_with base s ≡ s
 unfolding normalize_with starts

@@ -1,6 +1,8 @@
 -- A subpath whose pieces are told at once to be names: how that is seen byte by byte, and that its pieces joined one after the other are the subpath joined
 -- at once. Assumes nothing.
 use mathlib.Core.Path.{◌≡◌, refl, sym, ◌∙◌}
+use lib.Seq.{get_or-append_seam}
+use Rattle.std.proofs.lemmas.Bool.{and_parts}
 use mathlib.Core.List.{List, [], ◌∷◌, ◌++◌, append_assoc, append-nil}
 use mathlib.Core.Bool.{Bool, true, false, not, ◌&&◌, ◌||◌}
 use Prim.Native.Nat.{ℕ, ◌+◌, ◌-◌}
@@ -9,34 +11,22 @@ use lib.ListN.{length, get_or, length-append}
 use lib.Dec.{eqb}
 use borrow.Author.Tests.{eqb-true, eqb-false, not-true}
 use Rattle.text.specs.Bytes.{Text, slash, dot}
-use Rattle.std.specs.List.{list_all, slice_split, onto_first}
+use Rattle.std.specs.List.{list_all, slice_split}
 use Rattle.text.specs.Text.{each_of}
 use Rattle.text.proofs.Scans.{each_as_std}
-use Rattle.text.proofs.Picks.{by_test, never, both_left, both_right}
+use Rattle.text.proofs.Picks.{by_test}
 use Rattle.components.specs.Components.{split, on_first, piece_of, starts}
 use Rattle.components.specs.Places.{first_of}
 use Rattle.components.specs.declared.Piece.TheVariants.{Name}
-use Rattle.components.proofs.Pieces.{by_split, piece_name}
+use Rattle.components.proofs.Pieces.{by_split, piece_name, split_as_std}
 use Rattle.join.specs.Join.{joint, push_of, step_of, step_by, walk_of}
 use Rattle.join.specs.Plain.{opens_name, plain_name, plain_names}
 use Rattle.join.proofs.Buffer.{joint_some}
 
--- The pieces as std cuts them
-
-cut_is : (x : ℕ) (q : List Text) → onto_first x q ≡ on_first x q
-unfolding on_first
-cut_is x [] = refl
-cut_is x (p ∷ ps) = refl
-
-pub pieces_as_std : (s : Text) → slice_split (λ (x : ℕ). eqb x slash) s ≡ split s
-unfolding split
-pieces_as_std [] = refl
-pieces_as_std (x ∷ s) = rw (pieces_as_std s, cut_is x (split s)) refl
-
 -- what `all` over the pieces answers
 pub plain_as_std : (s : Text) → list_all plain_name (slice_split (λ (x : ℕ). eqb x slash) s) ≡ plain_names s
 unfolding plain_names
-plain_as_std s = rw (pieces_as_std s) (each_as_std plain_name (split s))
+plain_as_std s = rw (split_as_std s) (each_as_std plain_name (split s))
 
 -- Where each piece is a plain name, one begins at the start and behind each slash
 
@@ -83,7 +73,7 @@ plain_after s = each_first s ∙ rw (first_plain s, after_others s)
 
 plain_piece : (p : Text) → plain_name p ≡ true → Name ≡ piece_of p
 unfolding plain_name
-plain_piece [] h = let z : ◌≡◌ {A = ℕ} 0 1 = cc in never (omega arith)
+plain_piece [] h = let z : ◌≡◌ {A = ℕ} 0 1 = cc in absurd (omega arith)
 plain_piece (x ∷ p) h = piece_name (x ∷ p) (omega arith) (eqb-false x dot (not-true (eqb x dot) h))
 
 -- b with the first piece put behind it as it is, and then the others
@@ -103,16 +93,12 @@ unfolding on_first walk_of
 glued_first x b [] = refl
 glued_first x b (p ∷ ps) = rw (append_assoc b (x ∷ []) p)
 
-last_byte : (b : Text) (x : ℕ) → get_or (b ++ (x ∷ [])) (length b) 0 ≡ x
-last_byte [] x = refl
-last_byte (y ∷ b) x = last_byte b x
-
 -- a byte that is no slash asks for one behind it
 joint_behind : (b : Text) (x : ℕ) → eqb x slash ≡ false → joint (b ++ (x ∷ [])) ≡ slash ∷ []
 joint_behind b x f =
     let l : length (b ++ (x ∷ [])) ≡ length b + 1 = length-append b (x ∷ []) in
     let m : length (b ++ (x ∷ [])) - 1 ≡ length b = omega arith in
-    joint_some (b ++ (x ∷ [])) (omega arith) ∙ rw (m, last_byte b x, f)
+    joint_some (b ++ (x ∷ [])) (omega arith) ∙ rw (m, get_or-append_seam b x [] 0, f)
 
 -- a text with a name at its start does not start with a slash
 no_slash_lem : (s : Text) → opens_name (get_or s 0 slash) ≡ true → starts slash s ≡ true → ⊥
@@ -128,10 +114,10 @@ glued_all (x ∷ s) b j n =
     by_test (eqb x slash)
     (λ t.
     let m : opens_name (get_or s 0 slash) && names_after s ≡ true = rw t at n in
-    let o : opens_name (get_or s 0 slash) ≡ true = both_left (opens_name (get_or s 0 slash)) (names_after s) m in
-    let l : names_after s ≡ true = both_right (opens_name (get_or s 0 slash)) (names_after s) m in
+    let o : opens_name (get_or s 0 slash) ≡ true = (and_parts (opens_name (get_or s 0 slash)) (names_after s) m).0 in
+    let l : names_after s ≡ true = (and_parts (opens_name (get_or s 0 slash)) (names_after s) m).1 in
     rw (t, append-nil b, walk_first b s o, j t, eqb-true x slash t)
-    (glued_all s (b ++ (slash ∷ [])) (λ u. never (no_slash_lem s o u)) l ∙ append_assoc b (slash ∷ []) s))
+    (glued_all s (b ++ (slash ∷ [])) (λ u. absurd (no_slash_lem s o u)) l ∙ append_assoc b (slash ∷ []) s))
     (λ f.
     rw (f, glued_first x b (split s))
     (glued_all s (b ++ (x ∷ [])) (λ u. joint_behind b x f) (rw f at n) ∙ append_assoc b (x ∷ []) s))
@@ -141,6 +127,6 @@ pub walk_plain : (base sub : Text) → plain_names sub ≡ true → walk_of base
 unfolding push_of
 walk_plain base sub h =
     let m = sym (plain_after sub) ∙ h in
-    let o : opens_name (get_or sub 0 slash) ≡ true = both_left (opens_name (get_or sub 0 slash)) (names_after sub) m in
-    let n : names_after sub ≡ true = both_right (opens_name (get_or sub 0 slash)) (names_after sub) m in
-    walk_first base sub o ∙ glued_all sub (base ++ joint base) (λ u. never (no_slash_lem sub o u)) n ∙ append_assoc base (joint base) sub
+    let o : opens_name (get_or sub 0 slash) ≡ true = (and_parts (opens_name (get_or sub 0 slash)) (names_after sub) m).0 in
+    let n : names_after sub ≡ true = (and_parts (opens_name (get_or sub 0 slash)) (names_after sub) m).1 in
+    walk_first base sub o ∙ glued_all sub (base ++ joint base) (λ u. absurd (no_slash_lem sub o u)) n ∙ append_assoc base (joint base) sub

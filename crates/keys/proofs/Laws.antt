@@ -1,5 +1,6 @@
 -- Laws of a key's match and of the piece that its star stood for. Assumes nothing.
 use Rattle.std.proofs.Common.{◌≡◌, ℕ, ◌+◌, ◌-◌, ◌≤◌, ◌<◌, Bool, true, false, ◌&&◌, eqb, leb, [], ◌∷◌, length, take, drop, Option, Some, None, Bor, refl, sym, ap, ◌∙◌, add-one, arith}
+use mathlib.Core.Bool.{and-false}
 use Rattle.std.specs.Option.{MatchOption, option_copied}
 use Rattle.std.specs.Cmp.Lexicographic.{pointwise}
 use lib.Seq.{length-take-le, drop-drop}
@@ -7,7 +8,7 @@ use borrow.Author.Tests.{le-leb, lt-leb, leb-true, leb-false}
 use Rattle.text.specs.Bytes.{Text}
 use Rattle.text.specs.Text.{prefix_of, same_text, star_of, between}
 use Rattle.text.proofs.Picks.{by_test}
-use Rattle.text.proofs.Scans.{find_within, same_as_std}
+use Rattle.text.proofs.Scans.{find_within, same_is}
 use Rattle.keys.specs.Keys.{prefix, suffix, matches_at, part_at, key_part, is_match}
 
 -- as the code tests it
@@ -24,9 +25,6 @@ unfolding prefix_of
 begins [] s = refl
 begins (x ∷ p) [] = refl
 begins (x ∷ p) (y ∷ s) = rw (begins p s) refl
-
-ends : (a b : Text) → pointwise eqb a b ≡ same_text a b
-ends a b = same_as_std (pointwise eqb a b) a b refl
 
 -- what the star search found
 module _ (key s : Text) (r : Option ℕ) (f : r ≡ star_of key) where
@@ -61,11 +59,7 @@ module _ (key s : Text) (r : Option ℕ) (f : r ≡ star_of key) where
     -- the bytes before the star are not those that the specifier begins with
     pub prefix_missed : pointwise eqb (take (length (take i key)) s) (take i key) ≡ false → None ≡ key_part key s
     unfolding matches_at
-    prefix_missed n = sym (no_match (rw (sym (begins (take i key) s) ∙ n) (nothing (leb (length (prefix key i) + length (suffix key i)) (length s)))))
-      where
-        nothing : (b : Bool) → (b && false) ≡ false
-        nothing true = refl
-        nothing false = refl
+    prefix_missed n = sym (no_match (rw (sym (begins (take i key) s) ∙ n) (and-false (leb (length (prefix key i) + length (suffix key i)) (length s)))))
 
     -- the first i bytes are those before the star, and rest is what follows them; suf is what follows the star
     module _ (rest suf : Text) (p : pointwise eqb (take (length (take i key)) s) (take i key) ≡ true) (d : rest ≡ drop (length (take i key)) s) (n : length rest + length (take i key) ≡ length s) (g : suf ≡ drop (i + 1) key) where
@@ -85,7 +79,7 @@ module _ (key s : Text) (r : Option ℕ) (f : r ≡ star_of key) where
       unfolding matches_at
       reads h =
           let k : leb (length (prefix key i) + length (suffix key i)) (length s) ≡ true = le-leb _ _ (omega (arith, counted, length-take-le i key (omega (arith, star_in)), ap length suffix_is)) in
-          rw (k, sym (begins (take i key) s) ∙ p, suffix_is, tail_same h) (sym (ends (drop (length rest - length suf) rest) suf))
+          rw (k, sym (begins (take i key) s) ∙ p, suffix_is, tail_same h) (sym (same_is (drop (length rest - length suf) rest) suf))
 
       short : length rest < length suf → matches_at key i s ≡ false
       unfolding matches_at

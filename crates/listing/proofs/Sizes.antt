@@ -1,8 +1,8 @@
 -- How long a listing may be: there is always room to count it. Assumes nothing.
-use mathlib.Core.Path.{◌≡◌, refl, ap}
-use mathlib.Core.List.{List, [], ◌∷◌, ◌++◌, map}
+use mathlib.Core.Path.{◌≡◌, ap}
+use mathlib.Core.List.{List, [], ◌∷◌, ◌++◌, map, map-id}
 use mathlib.Core.Bool.{Bool, true, false}
-use Rattle.std.specs.Prelude.{Option, Some, None, option_map, unwrap_or, IfSome}
+use Rattle.std.specs.Prelude.{Option, Some, None, option_map, IfSome}
 use Prim.Native.Nat.{ℕ, ◌+◌, ◌*◌, ◌≤◌}
 use native.Mathlib.Omega.{arith}
 use lib.ListN.{length, length-append}
@@ -16,7 +16,7 @@ use Rattle.book.specs.Record.{Key, is, is_id, only, first_of, strings, single, t
 use Rattle.book.specs.Sound.{All, cons, Good}
 use Rattle.record.specs.Good.{read}
 use Rattle.record.specs.declared.place.Record.{Record}
-use Rattle.record.proofs.Good.{all_good, good_short, dir_short}
+use Rattle.record.proofs.Good.{all_good, dir_short, command_short, path_short}
 use Rattle.values.proofs.Lengths.{record_length, adjusted_length, substituted_length, placed_length}
 use Rattle.tsconfig.specs.Parsed.{placed}
 use Rattle.tsconfig.specs.Build.{adjusted}
@@ -48,21 +48,9 @@ decimal_length id = by_test (ltb id 10) (λ t. rw t (omega arith)) (λ f. rw f (
 -- The lines of a good record's strings
 
 module _ (text : Text) where
-  command_short : (c : Cmd) → Good text c → length (text_of text c) ≤ 512
-  command_short c g = good_short text c (rw (g.range, g.string) refl)
-
-  first_short : (ok : Cmd → Bool) (r : List Cmd) → All (Good text) r → length (unwrap_or (first_of (text_of text) (only ok r)) []) ≤ 512
-  unfolding first_of only
-  first_short ok [] h = omega arith
-  first_short ok (c ∷ r) (cons g h) = by_test (ok c) (λ t. rw t (command_short c g)) (λ e. rw e (first_short ok r h))
-
-  path_short : (r : List Cmd) → All (Good text) r → length (record_path_of text r) ≤ 512
-  unfolding record_path_of single
-  path_short r h = first_short (is command.begin) r h
-
   module _ (name : Text) (short : length name ≤ 20) (f : Text → Text) (small : (v : Text) → length v ≤ 512 → length (f v) ≤ 2700) where
     line : (c : Cmd) → Good text c → length (row name (f (text_of text c))) ≤ 4000
-    line c g = omega (arith, row_length name (f (text_of text c)), small (text_of text c) (command_short c g), short)
+    line c g = omega (arith, row_length name (f (text_of text c)), small (text_of text c) (command_short text c g), short)
 
     rows_only : (ok : Cmd → Bool) (r : List Cmd) → All (Good text) r → length (rows name (map f (map (text_of text) (only ok r)))) ≤ length r * 4000
     unfolding rows only
@@ -121,16 +109,12 @@ module _ (text : Text) where
           length-append k (targets ++ rest),
           length-append targets rest,
           row_length (bytes "key") (text_of text c),
-          command_short c g,
+          command_short text c g,
           rows_targets (bytes "target") (omega arith) (adjusted dir base) (λ v z. omega (arith, adjusted_length dir base v, z, sd, sb)) r h,
           rows_keys r h (omega (arith, s)),
           s,
         )))
         (λ e. rw e (omega (arith, rows_keys r h (omega (arith, s)))))
-
-same_map : (l : List Text) → map (λ v. v) l ≡ l
-same_map [] = refl
-same_map (x ∷ l) = ap (λ (m : List Text). x ∷ m) (same_map l)
 
 -- The fields of a record whose book is no longer than it may be
 
@@ -143,7 +127,7 @@ Fits r = length r.commands.now ≤ 32768
 pub references_size : (r : Record) → Fits r → length (rows (bytes "reference") (strings r.text.now command.reference (read r.commands.now r.at))) ≤ 132000000
 references_size r few =
     let l = strings r.text.now command.reference (read r.commands.now r.at) in
-    let z : length (rows (bytes "reference") (map (λ v. v) l)) ≡ length (rows (bytes "reference") l) = ap (λ (m : List Text). length (rows (bytes "reference") m)) (same_map l) in
+    let z : length (rows (bytes "reference") (map (λ v. v) l)) ≡ length (rows (bytes "reference") l) = ap (λ (m : List Text). length (rows (bytes "reference") m)) (map-id l) in
     omega (arith, z, rows_strings r.text.now (bytes "reference") (omega arith) (λ v. v) (λ v s. omega (arith, s)) command.reference (read r.commands.now r.at) (good r), record_length r.commands.now r.at, few)
 
 module _ (dir : Text) (sd : length dir ≤ 512) where

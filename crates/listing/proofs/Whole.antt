@@ -1,7 +1,8 @@
 -- The listing of a row of suppliers is what its suppliers say, field by field. Assumes nothing.
 use Rattle.book.specs.Index.{begin_of}
 use mathlib.Core.Path.{◌≡◌, refl, sym, ap, ◌∙◌}
-use mathlib.Core.List.{List, [], ◌∷◌, ◌++◌, map, append_assoc}
+use Rattle.path.proofs.Strip.{some_map}
+use mathlib.Core.List.{List, ◌++◌, append_assoc, map-map}
 use mathlib.Core.Bool.{true, true≢false}
 use Rattle.std.specs.Prelude.{Option, Some, None, option_map, IfSome}
 use Prim.Native.Nat.{ℕ, zero, suc, ◌+◌, ◌*◌, ◌≤◌, ◌<◌}
@@ -38,17 +39,6 @@ use Rattle.options.proofs.Suppliers.{config_in, none_at, some_at, plain_at, text
 use Rattle.listing.specs.Parts.{lists_part, places_part, base_part}
 use Rattle.listing.proofs.Sizes.{Fits, row_length, references_size, list_size, roots_size, url_size, place_size, mapping_size, text_size, flag_line}
 use Rattle.emit.specs.Emit.{Room}
-
--- Options
-
-some_map : {A C : Type 0} (g : A → C) (o : Option A) → is_some (option_map g o) ≡ is_some o
-unfolding is_some
-some_map g None = refl
-some_map g (Some a) = refl
-
-map_twice : (f g : Text → Text) (l : List Text) → map g (map f l) ≡ map (λ v. g (f v)) l
-map_twice f g [] = refl
-map_twice f g (x ∷ l) = ap (λ (m : List Text). g (f x) ∷ m) (map_twice f g l)
 
 -- What a supplier that names a list or a mapping says
 
@@ -170,7 +160,7 @@ module _ (b : CheckedBook) (row : List ℕ) (w : Row (records_in b) row) where
         let l = read r.commands.now r.at in
         let own = dir_of r.text.now l in
         ap (if_named (items (bytes "rootDir"))) (some_at b row w dir d base bs config.root_dirs r s ∙ ap (λ (o : Option (List Text)). option_map (built_value dir base config.root_dirs) (option_map (placed_value own config.root_dirs) o)) (listed_there r.text.now l command.root_dirs command.root_dir (said_there config.root_dirs r s)))
-        ∙ ap (items (bytes "rootDir")) (map_twice (placed own) (substituted dir) (strings r.text.now command.root_dir l))
+        ∙ ap (items (bytes "rootDir")) (map-map (substituted dir) (placed own) (strings r.text.now command.root_dir l))
 
     pub out_part : (x : Option Record) → Supplied b row 6 x → if_named (listings.row (bytes "outDir")) ((config_in b row).named config.out_dir) ≡ place_at (bytes "outDir") dir command.out_dir x
     unfolding if_named place_at slot said

@@ -1,11 +1,11 @@
 -- The load and the walk over the parents, branch by branch. Assumes nothing.
 use mathlib.Core.Path.{◌≡◌, refl, sym, ap, ap₂, subst, ◌∙◌, fun_ext}
 use mathlib.Core.List.{List, [], ◌∷◌, ◌++◌, reverse, reverse-append, map-append}
-use mathlib.Core.Bool.{Bool, true, false, cond, not, ◌||◌, ◌&&◌}
+use mathlib.Core.Bool.{Bool, true, false, cond, not, ◌||◌, ◌&&◌, and-false}
 use Rattle.std.specs.Prelude.{Option, Some, None, is_some, option_map, Result, Ok, Err}
 use Prim.Native.Nat.{ℕ, suc, ◌+◌, ◌*◌, ◌<◌, ◌≤◌}
 use native.Mathlib.Omega.{arith}
-use native.Mathlib.Numerals.{add-one}
+use native.Mathlib.Numerals.{add-one, one-add}
 use lib.Dec.{eqb}
 use lib.ListN.{length, get_or, set, take, length-take}
 use lib.Seq.{get_or-set_same, get_or-set_other, take-suc, take_all}
@@ -58,16 +58,13 @@ spare_set on c lt long off =
     free_cons {Val = λ f. ℕ} {B = ℕ} (record { size = 64; own = λ i. record { named = λ f. None; base = 0 }; entries = λ i. [] }) (on_of on) c lt off
     ∙ ap (λ chain. suc (tally 64 (λ i. 1) (λ i. not (chain i)))) (sym (on_add on c (omega (arith, lt, long))))
 
-one_more : (x : ℕ) → 1 + x ≡ suc x
-one_more x = omega arith
-
 -- a record that goes on the chain is pending no more
 pub pending_falls : (on : List Bool) (table : List (Option (List ℕ))) (c : ℕ) → c < 64 → length on ≡ 64 → get_or on c false ≡ false → held table c ≡ None → pending on table ≡ suc (pending (set on c true) table)
 unfolding pending
 pending_falls on table c lt long off free =
     tally_ext 64 (λ i. 1) {d = λ i. not (on_of on i) && not (is_some (held table i))} {e = λ i. eqb i c || (not (on_of (set on c true) i) && not (is_some (held table i)))} (λ i. same i (eqb i c) refl)
     ∙ tally_add (λ i. 1) (λ i. not (on_of (set on c true) i) && not (is_some (held table i))) c self 64 lt
-    ∙ one_more (tally 64 (λ i. 1) (λ i. not (on_of (set on c true) i) && not (is_some (held table i))))
+    ∙ one-add (tally 64 (λ i. 1) (λ i. not (on_of (set on c true) i) && not (is_some (held table i))))
   where
     same : (i : ℕ) (a : Bool) → eqb i c ≡ a → (not (on_of on i) && not (is_some (held table i))) ≡ (a || (not (on_of (set on c true) i) && not (is_some (held table i))))
     same i true e = rw (eqb-true i c e, off, free) refl
@@ -109,12 +106,8 @@ module _ (rs : List Parsed) (t : List (Option (List ℕ))) (row : List ℕ) (c :
   pending_after on l =
       tally_ext 64 (λ i. 1) {d = λ i. not (on_of on i) && not (is_some (held (set t c (Some row)) i))} {e = λ i. not (on_of (set on c true) i) && not (is_some (held t i))} (λ i. same i (eqb i c) refl)
     where
-      no : (a : Bool) → (a && false) ≡ false
-      no true = refl
-      no false = refl
-
       same : (i : ℕ) (a : Bool) → eqb i c ≡ a → (not (on_of on i) && not (is_some (held (set t c (Some row)) i))) ≡ (not (on_of (set on c true) i) && not (is_some (held t i)))
-      same i true e = rw (eqb-true i c e, put_same, get_or-set_same on c true false l) (no (not (get_or on c false)))
+      same i true e = rw (eqb-true i c e, put_same, get_or-set_same on c true false l) (and-false (not (get_or on c false)))
       same i false e = rw (get_or-set_other on c i true false (eqb-false i c e), put_other i (eqb-false i c e)) refl
 
 state_counted : (rs : List Parsed) (table : List (Option (List ℕ))) (m : ℕ) → state_of rs table (m + 1) ≡ counted (state_of rs table m)
@@ -161,17 +154,7 @@ pub record Walking (book : CheckedBook) (on : List Bool) (c : ℕ) (es : List En
   pub few : merges + length left + 8 * pending on table ≤ m + length es + 8 * pending on t
 
 module _ (book : CheckedBook) (on : List Bool) (c : ℕ) (es : List Entry) (x : List ℕ) (t : List (Option (List ℕ))) (m : ℕ) where
-  pub walking_start : WalkPre book t on c es x m → Walking book on c es x t m es x t m
-  walking_start p = record { same = refl; pre = p; few = omega arith }
-
   module _ (left : List Entry) (row : List ℕ) (table : List (Option (List ℕ))) (merges : ℕ) (w : Walking book on c es x t m left row table merges) where
-    pub walking_end : length left ≡ 0 → Tells (records_in book) on c (m + length es + 8 * pending on t) (walks (records_in book) on c es (config_of (records_in book) x) (state_of (records_in book) t m)) table (Ok (record { row = row; merges = merges }))
-    walking_end z = record { told = record { answer = w.same ∙ none left z; row = w.pre.row; own = w.pre.own; table = w.pre.table; few = omega (arith, w.few) } }
-      where
-        none : (l : List Entry) → length l ≡ 0 → walks (records_in book) on c l (config_of (records_in book) row) (state_of (records_in book) table merges) ≡ done (config_of (records_in book) row) (state_of (records_in book) table merges)
-        none [] z = refl
-        none (e ∷ l) z = absurd (omega (arith, z))
-
     module _ (j : ℕ) (h : length left ≡ suc j) (d e : Entry) (i : e ≡ get_or left j d) where
       -- what the walk does with the parent that it meets
       next : Gives → Gives
@@ -201,10 +184,6 @@ module _ (book : CheckedBook) (on : List Bool) (c : ℕ) (es : List Entry) (x : 
 
         module _ (new : List (Option (List ℕ))) (r : Result Loaded Refusal)
             (q : Tells (records_in book) on v (merges + 8 * pending on table) (recall ((state_of (records_in book) table merges).table v) (load (seen (records_in book)) (on_of on) v) (state_of (records_in book) table merges)) new r) where
-          pub bring_refused : (f : Refusal) → r ≡ Err f → walks (records_in book) on c es (config_of (records_in book) x) (state_of (records_in book) t m) ≡ refusal f
-          unfolding next
-          bring_refused f k = leads_on ∙ ap next (subst (ToldAs (records_in book) on v (merges + 8 * pending on table) (recall ((state_of (records_in book) table merges).table v) (load (seen (records_in book)) (on_of on) v) (state_of (records_in book) table merges)) new) k q.told)
-
           module _ (far : Loaded) (k : r ≡ Ok far) where
             pub brought : Went (records_in book) on v (merges + 8 * pending on table) (recall ((state_of (records_in book) table merges).table v) (load (seen (records_in book)) (on_of on) v) (state_of (records_in book) table merges)) new far
             brought = subst (ToldAs (records_in book) on v (merges + 8 * pending on table) (recall ((state_of (records_in book) table merges).table v) (load (seen (records_in book)) (on_of on) v) (state_of (records_in book) table merges)) new) k q.told

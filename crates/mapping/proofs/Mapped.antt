@@ -1,15 +1,17 @@
 -- What the keys of a record give for a specifier, once their targets are built, and how much that is. Assumes nothing.
 use Rattle.std.proofs.Common.{◌≡◌, ℕ, ◌-◌, ◌*◌, ◌≤◌, Bool, true, false, ◌&&◌, cond, List, [], ◌∷◌, map, length, drop, Option, Some, None, IfSome, option_map, refl, sym, ap, subst, ◌∙◌, true≢false, length-take, length-drop, arith}
+use Rattle.record.proofs.Good.{all_good, targets_short}
+use Rattle.std.proofs.lemmas.Bool.{and_parts}
 use Rattle.std.specs.Prelude.{unwrap_or}
 use lib.ListN.{length-map}
 use Rattle.text.specs.Bytes.{Text}
 use Rattle.text.specs.Text.{same_text, star_of, each_of}
-use Rattle.text.proofs.Picks.{by_test, both_left, both_right}
+use Rattle.text.proofs.Picks.{by_test}
 use Rattle.keys.specs.Keys.{suffix, matches_at, part_at, key_part, is_match}
 use Rattle.book.specs.declared.Cmd.{Cmd}
 use Rattle.book.specs.Command.{key}
 use Rattle.book.specs.Record.{Key, is, keys_of}
-use Rattle.book.specs.Sound.{All, nil, cons}
+use Rattle.book.specs.Sound.{All, nil, cons, Good}
 use Rattle.record.specs.Good.{good_command}
 use Rattle.tsconfig.specs.Build.{adjusted}
 use Rattle.tsconfig.specs.Laid.{laid}
@@ -17,7 +19,7 @@ use Rattle.tsconfig.specs.Mapping.{equal_key, longer, best_key, filled, from_bes
 use Rattle.values.proofs.Lengths.{targets_length}
 use Rattle.choice.specs.Keyed.{built_key}
 use Rattle.targets.specs.Targets.{target_as, EachShort}
-use Rattle.targets.proofs.Aims.{targets_short, laid_length}
+use Rattle.targets.proofs.Aims.{laid_length}
 
 -- Building keeps the keys, so that it changes no choice
 
@@ -69,7 +71,7 @@ unfolding best_key
 best_matches s b [] q = q
 best_matches s b (k ∷ ks) q =
     by_test (is_match (key_part k.key s) && longer b k)
-    (λ t. rw t (best_matches s (Some k) ks (both_left (is_match (key_part k.key s)) (longer b k) t)))
+    (λ t. rw t (best_matches s (Some k) ks (and_parts (is_match (key_part k.key s)) (longer b k) t).0))
     (λ f. rw f (best_matches s b ks q))
 
 -- What the star stood for is no longer than the specifier
@@ -90,10 +92,6 @@ pub part_short : (s : Text) (o : Option Text) → IfSome o (λ p. length p ≤ l
 part_short s None h l = tt
 part_short s (Some p) h l = omega (arith, h, l)
 
-pub map_map : {A B C : Type 0} (f : B → C) (g : A → B) (l : List A) → map f (map g l) ≡ map (λ a. f (g a)) l
-map_map f g [] = refl
-map_map f g (a ∷ l) = ap (λ x. f (g a) ∷ x) (map_map f g l)
-
 -- The keys of good commands
 
 module _ (text : Text) (n : ℕ) where
@@ -102,21 +100,20 @@ module _ (text : Text) (n : ℕ) where
     pub short : EachShort k.targets
     pub few : length k.targets ≤ n
 
-  keys_few : (r : List Cmd) → each_of (good_command text) r ≡ true → length r ≤ n → All FewKey (keys_of text r)
-  unfolding keys_of each_of
-  keys_few [] h l = nil
-  keys_few (c ∷ r) h l =
-      let rest = both_right (good_command text c) (each_of (good_command text) r) h in
+  keys_few : (r : List Cmd) → All (Good text) r → length r ≤ n → All FewKey (keys_of text r)
+  unfolding keys_of
+  keys_few [] nil l = nil
+  keys_few (c ∷ r) (cons g h) l =
       by_test (is key c)
-      (λ t. rw t (cons (record { short = targets_short text r rest; few = omega (arith, l, targets_length text r) }) (keys_few r rest (omega (arith, l)))))
-      (λ f. rw f (keys_few r rest (omega (arith, l))))
+      (λ t. rw t (cons (record { short = targets_short text r h; few = omega (arith, l, targets_length text r) }) (keys_few r h (omega (arith, l)))))
+      (λ f. rw f (keys_few r h (omega (arith, l))))
 
   module _ (r : List Cmd) (h : each_of (good_command text) r ≡ true) (l : length r ≤ n) (spec : Text) where
     pub equal_small : (k : Key) → equal_key spec (keys_of text r) ≡ Some k → FewKey k
-    equal_small k e = subst (λ (o : Option Key). IfSome o FewKey) e (equal_holds FewKey spec (keys_of text r) (keys_few r h l))
+    equal_small k e = subst (λ (o : Option Key). IfSome o FewKey) e (equal_holds FewKey spec (keys_of text r) (keys_few r (all_good text r h) l))
 
     pub best_small : (k : Key) → best_key spec None (keys_of text r) ≡ Some k → FewKey k
-    best_small k e = subst (λ (o : Option Key). IfSome o FewKey) e (best_holds FewKey spec None (keys_of text r) tt (keys_few r h l))
+    best_small k e = subst (λ (o : Option Key). IfSome o FewKey) e (best_holds FewKey spec None (keys_of text r) tt (keys_few r (all_good text r h) l))
 
 -- What is to be written: the targets of the key that is chosen
 

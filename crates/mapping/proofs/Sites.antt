@@ -1,10 +1,11 @@
 -- The aliases and the candidates of a row's config. Assumes nothing.
 use Rattle.book.specs.Index.{begin_of}
 use Rattle.std.proofs.Common.{◌≡◌, ℕ, ◌≤◌, ◌<◌, Bool, true, false, List, [], ◌∷◌, map, length, get_or, Option, Some, None, IfSome, option_map, refl, sym, ap, ◌∙◌, true≢false, arith}
-use Rattle.std.specs.Prelude.{unwrap_or}
+use Rattle.std.proofs.lemmas.List.{nil_from_length}
+use Rattle.path.proofs.Strip.{some_map}
 use Rattle.text.specs.Bytes.{Text, dot}
-use Rattle.text.specs.Text.{some_of, each_of}
-use Rattle.text.proofs.Picks.{by_test, both_left, both_right}
+use Rattle.text.specs.Text.{some_of}
+use Rattle.text.proofs.Picks.{by_test}
 use Rattle.emit.specs.Output.{Puts}
 use Rattle.emit.specs.declared.Output.{Output}
 use Rattle.emit.proofs.Outputs.{puts_both}
@@ -14,10 +15,9 @@ use Rattle.ends.specs.Ends.{parent_of}
 use Rattle.join.specs.Join.{normalize_with}
 use Rattle.book.specs.declared.Cmd.{Cmd}
 use Rattle.book.specs.Command as command
-use Rattle.book.specs.Record.{is, only, first_of, single, keys_of, mapping, record_path_of}
+use Rattle.book.specs.Record.{is, keys_of, mapping}
 use Rattle.items.proofs.Reading.{mapping_is, mapping_not}
-use Rattle.record.specs.Good.{read, good_command}
-use Rattle.record.proofs.Good.{good_each, good_short, dir_short}
+use Rattle.record.specs.Good.{read}
 use Rattle.tsconfig.specs.Config.{Field, base_url, paths}
 use Rattle.tsconfig.specs.Parsed.{placed_value, said}
 use Rattle.tsconfig.specs.Build.{Settings, built_value}
@@ -28,7 +28,7 @@ use Rattle.rows.specs.Rows.{slot, begin_at, supplier, number_of, Row}
 use Rattle.rows.specs.Records.{dir_of}
 use Rattle.rows.specs.Checked.{records_in}
 use Rattle.rows.specs.declared.CheckedBook.{CheckedBook}
-use Rattle.rows.proofs.Fields.{found_place, found_rec, record_says, supplier_there, place_there, place_good, own_sound, site_path, site_none, site_plain, plain}
+use Rattle.rows.proofs.Fields.{found_place, found_rec, record_says, supplier_there, place_there, place_good, site_path, site_none, site_plain, plain}
 use Rattle.choice.specs.Keyed.{built_key}
 use Rattle.targets.specs.Targets.{Lists}
 use Rattle.targets.proofs.Aims.{lists_none}
@@ -38,11 +38,6 @@ use Rattle.sites.specs.declared.Config.{Config}
 use Rattle.mapping.proofs.Mapped.{Few, few_none, paths_few}
 
 -- What a row says
-
-is_some_map : {A B : Type 0} (g : A → B) (o : Option A) → is_some (option_map g o) ≡ is_some o
-unfolding is_some
-is_some_map g None = refl
-is_some_map g (Some a) = refl
 
 mapping_some : (text : Text) (r : List Cmd) → is_some (mapping text r) ≡ true → mapping text r ≡ Some (keys_of text r)
 unfolding is_some
@@ -74,7 +69,7 @@ module _ (c : Config) where
       let z : rec ≡ begin_of b.paths.rows.now (supplier row f) = found_rec b.paths.rows.now row (slot f) rec e in
       let h = record_says s text b.paths.rows.now b.records (supplier row f) (supplier_there s text b.paths.rows.now b.records row w f n) f in
       ap (λ (j : ℕ). is_some (said text (read s j) f)) z
-      ∙ sym (is_some_map (placed_value (dir_of text (read s (begin_of b.paths.rows.now (supplier row f)))) f) (said text (read s (begin_of b.paths.rows.now (supplier row f))) f))
+      ∙ sym (some_map (placed_value (dir_of text (read s (begin_of b.paths.rows.now (supplier row f)))) f) (said text (read s (begin_of b.paths.rows.now (supplier row f))) f))
       ∙ sym (ap is_some h) ∙ w.named f n
 
 -- The aliases
@@ -145,7 +140,7 @@ module _ (built : Built) (spec : Text) where
   unfolding slot built_value said plain
   base_named rec q =
       let x = site_plain (s c) (text c) (b c).paths.rows.now (b c).records (row c) (w c) dir (dir_is c) base built.value base_url refl rec q in
-      let n : is_some (config.named base_url) ≡ true = ap is_some x ∙ is_some_map (built_value dir base base_url) (said (text c) (read (s c) rec) base_url) ∙ said_some c base_url rec q in
+      let n : is_some (config.named base_url) ≡ true = ap is_some x ∙ some_map (built_value dir base base_url) (said (text c) (read (s c) rec) base_url) ∙ said_some c base_url rec q in
       from_base config (config.named base_url) n ∙ ap (λ (t : Text). normalize_with t spec ∷ []) (sym built.value)
 
 -- Lists where there is none
@@ -170,13 +165,9 @@ module _ (c : Settings) (spec : Text) (o u : Output) (n : ℕ) (y : Lists (alias
   unfolding candidates
   some_mapped h = rw (some_stay (aliases c spec) (from_base_url c spec (c.named base_url)) (omega (arith, y.counts, h))) y
 
-  none_of : (ts : List Text) → length ts ≡ 0 → ts ≡ []
-  none_of [] h = refl
-  none_of (t ∷ ts) h = absurd (omega (arith, h))
-
   module _ (z : n ≤ 0) where
     no_alias : aliases c spec ≡ []
-    no_alias = none_of (aliases c spec) (omega (arith, y.counts, z))
+    no_alias = nil_from_length (aliases c spec) (omega (arith, y.counts, z))
 
     none_puts : Puts [] o u
     unfolding laid

@@ -12,7 +12,7 @@ use Rattle.std.specs.Option.{MatchOption, option_copied}
 use Rattle.std.specs.Cmp.Lexicographic.{pointwise}
 use Rattle.text.specs.Bytes.{Text, bytes, slash}
 use Rattle.text.specs.Text.{some_of, prefix_of}
-use Rattle.text.proofs.Picks.{by_test, never}
+use Rattle.text.proofs.Picks.{by_test}
 use Rattle.names.specs.Names.{config_dir, is_ts_extension, is_js_extension}
 use Rattle.emit.specs.declared.Output.{Output}
 use Rattle.emit.specs.Output.{text_of, Puts, Becomes}

@@ -1,7 +1,7 @@
 -- Two strings that meet, and the rows that one is held against. Assumes nothing.
 use mathlib.Core.Path.{◌≡◌, refl, sym, ap, ap₂, ◌∙◌}
 use mathlib.Core.List.{List, [], ◌∷◌, ◌++◌, map, reverse, reverse-cons}
-use mathlib.Core.Bool.{Bool, true, false, ◌&&◌, ◌||◌, cond, and-false, or-false, or_assoc, true≢false}
+use mathlib.Core.Bool.{Bool, true, false, ◌&&◌, ◌||◌, cond, and-false, or-false, or_assoc, or_comm, or_self}
 use Prim.Native.Nat.{ℕ, ◌≤◌, ◌<◌}
 use native.Mathlib.Omega.{arith}
 use lib.ListN.{length, get_or, length-drop}
@@ -12,7 +12,7 @@ use Rattle.text.specs.Bytes.{Text}
 use Rattle.text.specs.Text.{prefix_of, same_text, some_of}
 use Rattle.compare.specs.Compare.{covers}
 use Rattle.compare.specs.Compare.{digest_of}
-use Rattle.text.proofs.Scans.{same_length, same_as_std, some_as_std}
+use Rattle.text.proofs.Scans.{same_length, same_as_std, some_as_std, same_eq}
 use Rattle.compare.proofs.Ways.{over_short}
 use Rattle.text.proofs.Picks.{by_test}
 use Rattle.book.specs.Rules.{clash}
@@ -27,16 +27,10 @@ unfolding some_of
 some_append P [] l = refl
 some_append P (x ∷ k) l = rw (some_append P k l) (sym (or_assoc (P x) (some_of P k) (some_of P l)))
 
-or_swap : (a b : Bool) → (a || b) ≡ (b || a)
-or_swap true true = refl
-or_swap true false = refl
-or_swap false true = refl
-or_swap false false = refl
-
 pub some_reverse : {A : Type 0} (P : A → Bool) (l : List A) → some_of P (reverse l) ≡ some_of P l
 unfolding some_of
 some_reverse P [] = refl
-some_reverse P (x ∷ l) = ap (some_of P) (reverse-cons x l) ∙ some_append P (reverse l) (x ∷ []) ∙ ap₂ ◌||◌ (some_reverse P l) (or-false (P x)) ∙ or_swap (some_of P l) (P x)
+some_reverse P (x ∷ l) = ap (some_of P) (reverse-cons x l) ∙ some_append P (reverse l) (x ∷ []) ∙ ap₂ ◌||◌ (some_reverse P l) (or-false (P x)) ∙ or_comm (some_of P l) (P x)
 
 some_map : {A B : Type 0} (P : B → Bool) (f : A → B) (l : List A) → some_of P (map f l) ≡ some_of (λ x. P (f x)) l
 unfolding some_of
@@ -71,10 +65,6 @@ covers_same [] [] e = refl
 covers_same [] (y ∷ b) e = absurd (omega (arith, e))
 covers_same (x ∷ a) [] e = absurd (omega (arith, e))
 covers_same (x ∷ a) (y ∷ b) e = ap (λ (t : Bool). eqb x y && t) (covers_same a b (omega (arith, e)))
-
-or_self : (a : Bool) → (a || a) ≡ a
-or_self true = refl
-or_self false = refl
 
 same_swap : (a b : Text) → same_text a b ≡ same_text b a
 unfolding same_text
@@ -114,21 +104,6 @@ meet_rest a b r h k =
 
 -- Two strings that cannot meet
 
-pub same_whole : (a b : Text) → same_text a b ≡ true → a ≡ b
-unfolding same_text
-same_whole [] [] e = refl
-same_whole [] (y ∷ b) e = absurd (true≢false (sym e))
-same_whole (x ∷ a) [] e = absurd (true≢false (sym e))
-same_whole (x ∷ a) (y ∷ b) e = ap₂ ◌∷◌ (eqb-true x y (left (eqb x y) (same_text a b) e)) (same_whole a b (right (eqb x y) (same_text a b) e))
-  where
-    left : (a b : Bool) → (a && b) ≡ true → a ≡ true
-    left true b e = refl
-    left false b e = e
-
-    right : (a b : Bool) → (a && b) ≡ true → b ≡ true
-    right true b e = e
-    right false b e = absurd (true≢false (sym e))
-
 pub meet_never : (paths : Bool) (a b : Text) → cond (eqb (length a) (length b)) (eqb (digest_of a) (digest_of b)) paths ≡ false → meets paths a b ≡ false
 meet_never paths a b e =
     by_test (eqb (length a) (length b))
@@ -137,7 +112,7 @@ meet_never paths a b e =
     let d : eqb (digest_of a) (digest_of b) ≡ false = rw y at e in
     sym (meet_same paths a b (covers b a) l refl) ∙ covers_same a b l
     ∙ by_test (same_text a b)
-    (λ t. absurd (eqb-false (digest_of a) (digest_of b) d (ap digest_of (same_whole a b t))))
+    (λ t. absurd (eqb-false (digest_of a) (digest_of b) d (ap digest_of (same_eq a b t))))
     (λ f. f))
     (λ y. let p : paths ≡ false = rw y at e in sym (meet_not paths a b p (eqb-false (length a) (length b) y)))
 
@@ -161,7 +136,7 @@ unfolding meets
 key_is text s mark m r i =
     let e : pointwise eqb s (string_at text r) ≡ same_text s (string_at text r) = same_as_std (pointwise eqb s (string_at text r)) s (string_at text r) refl in
     by_test (same_text s (string_at text r))
-    (λ y. rw (e, y, eq-eqb r.mark mark (i.marked ∙ sym (m ∙ ap digest_of (same_whole s (string_at text r) y)))) refl)
+    (λ y. rw (e, y, eq-eqb r.mark mark (i.marked ∙ sym (m ∙ ap digest_of (same_eq s (string_at text r) y)))) refl)
     (λ f. rw (e, f) (and-false (eqb r.mark mark)))
 
 pub keys_met : (text s : Text) (mark : ℕ) → mark ≡ digest_of s → (rows : List Seen) → AllSeen text rows → list_any (key_met text s mark) (reverse rows) ≡ some_of (meets false s) (texts text rows)

@@ -1,5 +1,6 @@
 -- What is noted of the paths before, and what it tells. Assumes nothing.
 use mathlib.Core.Path.{◌≡◌, refl, sym, ap, subst, ◌∙◌}
+use Rattle.std.proofs.lemmas.Bool.{and_parts}
 use mathlib.Core.List.{List, [], ◌∷◌, ◌++◌}
 use mathlib.Core.Bool.{true, false, ◌&&◌, cond, true≢false}
 use Prim.Native.Nat.{ℕ, ◌+◌, ◌≤◌, ◌<◌}
@@ -19,7 +20,6 @@ use Rattle.book.specs.State.{string_at, texts, meets, AllSeen}
 use Rattle.std.proofs.lemmas.List.Elements.{All-push}
 use Rattle.meeting.specs.Signs.{Signed, Noted, Apart}
 use Rattle.strings.proofs.Gather.{or_none}
-use Rattle.strings.proofs.Tame.{and_left, and_right}
 use Rattle.meeting.proofs.Rows.{none_rows, meet_short, meet_long, meet_never}
 
 -- A path that covers another ends before a slash of it
@@ -101,7 +101,7 @@ module _ (lengths slashes₀ : List ℕ) (s : Text) (slashes : List ℕ) (met i 
     both : bit_or met f ≡ 0 → (met ≡ 0) × (f ≡ 0)
     both z =
         let w : (eqb met 0 && eqb f 0) ≡ true = sym (or_none met f) ∙ eq-eqb (bit_or met f) 0 z in
-        (eqb-true met 0 (and_left (eqb met 0) (eqb f 0) w), eqb-true f 0 (and_right (eqb met 0) (eqb f 0) w))
+        (eqb-true met 0 (and_parts (eqb met 0) (eqb f 0) w).0, eqb-true f 0 (and_parts (eqb met 0) (eqb f 0) w).1)
 
     pub noting_on : Noting lengths slashes₀ s (set slashes i x) (bit_or met f) (i + 1)
     noting_on =

@@ -4,7 +4,6 @@ use mathlib.Core.List.{List, [], ◌∷◌}
 use mathlib.Core.Bool.{Bool, true, false, ◌||◌, cond}
 use Rattle.std.specs.Prelude.{Option, Some, None, unwrap_or, Result, Ok, Err}
 use Prim.Native.Nat.{ℕ, zero, suc, ◌+◌, ◌-◌, ◌≤◌, ◌<◌}
-use native.Mathlib.Omega.{arith}
 use native.Mathlib.Numerals.{add-one}
 use lib.ListN.{length, get_or, drop, drop_of_length-le}
 use lib.Seq.{drop-cons}
@@ -19,7 +18,6 @@ use Rattle.path.specs.Path.{is_some}
 use Rattle.book.specs.Answer.{given}
 use Rattle.book.specs.Find.{find}
 use Rattle.book.specs.Refusals.{refusal}
-use Rattle.book.specs.Sound.{All, cons}
 use Rattle.book.specs.declared.Refusal.{Refusal}
 use Rattle.records.specs.Tables.{paths_in}
 use Rattle.records.proofs.Paths.{find_within}
@@ -146,11 +144,6 @@ module _ (rs : List Parsed) (path : Text) where
     walk_on e u g = next ∙ ap (λ x. answered x (owner_from rs path (left j (parent_of d)))) e ∙ ap (λ (v : Text). owner_from rs path (left j v)) (sym g)
 
 -- The references in turn
-
-pub all_at : {A : Type 0} {P : A → Type 0} (l : List A) (d : A) → All P l → (i : ℕ) → i < length l → P (get_or l i d)
-all_at [] d h i l = absurd (omega (arith, l))
-all_at (x ∷ xs) d (cons p h) zero l = p
-all_at (x ∷ xs) d (cons p h) (suc i) l = all_at xs d h i (omega (arith, l))
 
 module _ (path : Text) (rs : List Parsed) (refs : List (List ℕ)) (i : ℕ) (w : claimer path (sites_of rs refs) ≡ claimer path (sites_of rs (drop i refs))) where
   pub search_end : length refs ≤ i → None ≡ claimer path (sites_of rs refs)

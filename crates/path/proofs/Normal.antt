@@ -7,7 +7,6 @@ use lib.ListN.{length, drop}
 use lib.Dec.{eqb}
 use Rattle.text.specs.Bytes.{Text, bytes, slash}
 use Rattle.text.specs.Text.{each_of, same_text}
-use Rattle.text.proofs.Picks.{never}
 use Rattle.components.specs.Components.{split, piece_of, is_name, starts}
 use Rattle.path.specs.Path.{normal}
 
@@ -27,9 +26,9 @@ module _ (s : Text) (r : Bool) (e : r ≡ starts slash s) where
     normal_root l = rw (root s l (sym e ∙ t))
       where
         root : (s : Text) → length s ≡ 1 → starts slash s ≡ true → same_text s (bytes "/") ≡ true
-        root [] l h = never (omega arith)
+        root [] l h = absurd (omega arith)
         root (x ∷ []) l h = rw h
-        root (x ∷ y ∷ s) l h = never (omega arith)
+        root (x ∷ y ∷ s) l h = absurd (omega arith)
 
     pub normal_deep : (length s ≡ 1 → ⊥) → (q : Bool) → q ≡ each_of (λ p. is_name (piece_of p)) (split (drop 1 s)) → q ≡ normal s
     unfolding normal same_text

@@ -18,7 +18,7 @@ use Rattle.component_walk.specs.Walk.{pieces, Takes}
 use Rattle.path.specs.Path.{same_list, left_of, is_some, same_path, under, left_pieces, strip_prefix}
 use Rattle.path.specs.Left.{left_after}
 use Rattle.ends.specs.Ends.{joined, ending, trim_end, trimmed}
-use Rattle.text.proofs.Picks.{by_test, never}
+use Rattle.text.proofs.Picks.{by_test}
 use Rattle.ends.proofs.Ends.{trimmed_front}
 use Rattle.components.proofs.Components.{LeadIs, empty, rooted, dot_only, dot_slash, plain, lead_is, lead_front, names_rest}
 use Rattle.components.proofs.Pieces.{by_split}
@@ -40,11 +40,11 @@ left_none [] c cs e = refl
 left_none (p ∷ ps) c cs e =
     by_test (is_skip (piece_of p))
     (λ t. rw t (left_none ps c cs (rw t at e)))
-    (λ f. let z = ap length (rw f at e) in never (omega arith))
+    (λ f. let z = ap length (rw f at e) in absurd (omega arith))
 
 left_next : (ps : List Text) (x : Text) (qs : List Text) (c : Text) (cs : List Text) → trim_start ps ≡ x ∷ qs → left_pieces ps (c ∷ cs) ≡ cond (same_text x c) (left_pieces qs cs) None
 unfolding trim_start left_pieces
-left_next [] x qs c cs e = let z = ap length e in never (omega arith)
+left_next [] x qs c cs e = let z = ap length e in absurd (omega arith)
 left_next (p ∷ ps) x qs c cs e =
     by_test (is_skip (piece_of p))
     (λ t. rw t (left_next ps x qs c cs (rw t at e)))
@@ -111,7 +111,7 @@ left_names (p ∷ ps) (c ∷ cs) =
     (λ t. rw t (left_names ps (c ∷ cs)))
     (λ f. rw f (by_test (same_text p c) (λ t. rw t (left_names ps cs)) (λ g. rw g)))
 
-some_map : {A B : Type 0} (f : A → B) (o : Option A) → is_some (option_map f o) ≡ is_some o
+pub some_map : {A B : Type 0} (f : A → B) (o : Option A) → is_some (option_map f o) ≡ is_some o
 unfolding is_some
 some_map f None = refl
 some_map f (Some a) = refl
@@ -175,7 +175,7 @@ module _ (p d : Text) where
 pub under_none : (p d : Text) → length d ≡ 0 → true ≡ under p d
 unfolding under components heads starts leads_dot names split piece_of left_of is_some
 under_none p [] h = refl
-under_none p (x ∷ d) h = never (omega arith)
+under_none p (x ∷ d) h = absurd (omega arith)
 
 -- The texts of what is left
 
@@ -194,7 +194,7 @@ trims_meet (p ∷ ps) = by_test (is_skip (piece_of p)) (λ t. rw t (skips (trim_
 
 strip_after : (p d : Text) → 0 < length d → strip_prefix p d ≡ option_map (λ ps. joined (trim_end ps)) (left_after p d)
 unfolding strip_prefix rough
-strip_after p [] h = never (omega arith)
+strip_after p [] h = absurd (omega arith)
 strip_after p (x ∷ d) h =
     by_test (same_text (lead_of p) (lead_of (x ∷ d))) (λ t. rw t (meet (left_pieces (split (rest_of p)) (names (split (rest_of (x ∷ d))))))) (λ f. rw f refl)
     ∙ sym (map_map (λ ps. joined (trim_end ps)) trim_start (rough p (x ∷ d)))
@@ -261,4 +261,4 @@ pub strip_all : (p d : Text) → length d ≡ 0 → (n : ℕ) → n ≡ length (
 unfolding strip_prefix trimmed
 strip_all p [] h n i e j =
     rw (j, take-add n (length (joined (trim_end (split (drop n p))))) p, trimmed_front (drop n p), i, lead_front p)
-strip_all p (x ∷ d) h n i e j = never (omega arith)
+strip_all p (x ∷ d) h n i e j = absurd (omega arith)

@@ -1,31 +1,21 @@
 -- Laws of paths compared by components, and of what is left of one after a directory. Assumes nothing.
 use mathlib.Core.Path.{◌≡◌, refl, ap}
+use Rattle.text.proofs.Scans.{same_eq}
+use Rattle.std.proofs.lemmas.Bool.{and_parts}
 use mathlib.Core.List.{List, [], ◌∷◌}
 use mathlib.Core.Bool.{true, false, ◌&&◌}
 use Prim.Native.Nat.{ℕ, ◌<◌}
 use native.Mathlib.Omega.{arith}
 use lib.ListN.{length, take}
-use lib.Dec.{eqb}
-use borrow.Author.Tests.{eqb-true}
 use Rattle.text.specs.Bytes.{Text, slash, dot}
 use Rattle.text.specs.Text.{each_of, same_text}
-use Rattle.text.proofs.Picks.{by_test, never, both_left, both_right}
+use Rattle.text.proofs.Picks.{by_test}
 use Rattle.components.specs.Components.{split, piece_of, is_skip, starts, leads_dot, lead_of, names, heads, components}
 use Rattle.components.proofs.Components.{LeadIs, empty, rooted, dot_only, dot_slash, plain, lead_is, lead_front}
 use Rattle.ends.proofs.Ends.{lacks, split_bare}
 use Rattle.path.specs.Path.{same_list, left_of, is_some, same_path, under}
 
 -- A name is never a lead
-
-pub same_eq : (a b : Text) → same_text a b ≡ true → a ≡ b
-unfolding same_text
-same_eq [] [] h = refl
-same_eq [] (y ∷ b) h = let z : ◌≡◌ {A = ℕ} 0 1 = cc in never (omega arith)
-same_eq (x ∷ a) [] h = let z : ◌≡◌ {A = ℕ} 0 1 = cc in never (omega arith)
-same_eq (x ∷ a) (y ∷ b) h =
-    let p : x ≡ y = eqb-true x y (both_left (eqb x y) _ h) in
-    let q : a ≡ b = same_eq a b (both_right (eqb x y) _ h) in
-    cc
 
 differ : (a b : Text) → (a ≡ b → ⊥) → same_text a b ≡ false
 differ a b n = by_test (same_text a b) (λ t. absurd (n (same_eq a b t))) (λ f. f)
@@ -54,8 +44,8 @@ by_names {X} s f g = go (split s) (split_bare s) f g
     go [] h f g = f refl
     go (p ∷ ps) h f g =
         by_test (is_skip (piece_of p))
-        (λ t. go ps (both_right (lacks slash p) _ h) (λ e. f (rw t e)) (λ c cs e. g c cs (rw t e)))
-        (λ k. g p (names ps) (rw k) k (both_left (lacks slash p) _ h))
+        (λ t. go ps (and_parts (lacks slash p) _ h).1 (λ e. f (rw t e)) (λ c cs e. g c cs (rw t e)))
+        (λ k. g p (names ps) (rw k) k (and_parts (lacks slash p) _ h).0)
 
 -- so paths are compared by their leads and by their names
 module _ (a b : Text) where

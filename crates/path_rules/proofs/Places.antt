@@ -1,5 +1,6 @@
 -- The one pass over a long path: what is gathered by blocks, of which two may lie one over the other. Assumes nothing.
 use mathlib.Core.Path.{◌≡◌, refl, sym, ap, ap₂, ◌∙◌}
+use Rattle.std.proofs.lemmas.Bool.{and_parts}
 use mathlib.Core.List.{[], ◌∷◌}
 use mathlib.Core.Bool.{Bool, true, false, not, ◌&&◌}
 use Prim.Native.Nat.{ℕ, zero, suc, ◌+◌, ◌-◌, ◌≤◌, ◌<◌}
@@ -11,7 +12,6 @@ use Rattle.std.proofs.lemmas.Bool.Decides.{nat_tests}
 use Rattle.text.specs.Bytes.{Text, bytes, slash}
 use Rattle.text.specs.Text.{each_of}
 use Rattle.strings.specs.Strings.{none_of}
-use Rattle.strings.proofs.Tame.{and_right}
 use Rattle.normal.specs.Scan.{nameless, names_behind}
 use Rattle.normal.proofs.Names.{behind_next}
 use Rattle.path_rules.specs.Scan.{free_names}
@@ -42,7 +42,7 @@ rest_plain (suc k) (x ∷ s) e =
     rest_plain k s (both (none_of (bytes "*?#") x) (each_of (none_of (bytes "*?#")) s) (not (eqb x slash && nameless (get_or s 0 slash) (get_or s 1 slash) (get_or s 2 slash))) (names_behind s) e)
   where
     both : (a b c d : Bool) → ((a && b) && (c && d)) ≡ true → (b && d) ≡ true
-    both a b c d e = and_right (a && c) (b && d) (sym (swap a b c d) ∙ e)
+    both a b c d e = (and_parts (a && c) (b && d) (sym (swap a b c d) ∙ e)).1
 
 later : (s : Text) (i j : ℕ) → i ≤ j → plain s i ≡ true → plain s j ≡ true
 later s i j h e =

@@ -9,11 +9,11 @@ use native.Mathlib.Omega.{arith}
 use native.Mathlib.Numerals.{add-one}
 use lib.ListN.{length, get_or, set, take, replicate, length-set, length-take}
 use lib.Seq.{take-suc-set}
-use borrow.Author.Tests.{eq-eqb, ne_eqb}
+use borrow.Author.Tests.{ne_eqb}
 use Rattle.text.specs.Bytes.{Text}
 use Rattle.book.specs.declared.Refusal.{Refusal}
 use Rattle.book.specs.Answer.{Answer, refused, given, ◌>>=◌}
-use Rattle.book.specs.Refusals.{number_of, refusal}
+use Rattle.book.specs.Refusals.{refusal}
 use Rattle.book.specs.Command.{reference}
 use Rattle.book.specs.Record.{strings}
 use Rattle.book.specs.Index as index
@@ -31,12 +31,12 @@ use Rattle.rows.specs.Checked.{records_in}
 use Rattle.rows.specs.declared.CheckedBook.{CheckedBook}
 use Rattle.entries.specs.declared.lists.Entry.{Entry}
 use Rattle.entries.specs.declared.lists.Opened.{Opened}
-use Rattle.entries.specs.Entries.{entries_of, Inside}
-use Rattle.entries.specs.Opens.{OpenedAs, RefusedAs}
+use Rattle.entries.specs.Entries.{entries_of}
+use Rattle.entries.specs.Opens.{OpenedAs}
 use Rattle.entries.proofs.Going.{all_join}
 use Rattle.entries.proofs.Dirs.{references_are, record_sound, few_references}
 use Rattle.load.specs.declared.Loaded.{Loaded}
-use Rattle.load.specs.Loads.{on_of, held, state_of, pending, Table, Gives, Went, ToldAs, Tells, walks, LoadPre, WalkPre}
+use Rattle.load.specs.Loads.{on_of, held, state_of, pending, Table, Gives, Went, ToldAs, Tells, walks, LoadPre}
 use Rattle.references.specs.References.{nobody, ReferPre, Refer, ReferAs, Refers, sites_of, Listed, ListedAs, Lists, Opened as Whole}
 
 pub nobody_on : on_of nobody ≡ (λ i. false)
@@ -53,13 +53,7 @@ nobody_on = fun_ext go
 -- One reference
 
 module _ (rs : List Parsed) (c r : ℕ) where
-  pub refer_self : r ≡ c → (s : Store) → refer (seen rs) c r s ≡ refused 10 c
-  refer_self e s = rw (eq-eqb r c e) refl
-
   module _ (other : r ≡ c → ⊥) where
-    pub refer_unread : (f : Refusal) → RefusedAs rs r f → (s : Store) → refer (seen rs) c r s ≡ refusal f
-    refer_unread f p s = (rw (ne_eqb r c other, p.why) refl) ∙ ap (refused (number_of f.fault)) (sym p.place)
-
     module _ (o : Opened) (p : OpenedAs rs r o) (es : List Entry) (is : es ≡ take o.entries.count o.entries.all) where
       refer_walks : (s : Store) → refer (seen rs) c r s ≡ walks rs nobody r es (config_of rs o.row) s
       refer_walks s =
@@ -74,16 +68,6 @@ module _ (rs : List Parsed) (c r : ℕ) where
       refer_walk table m t (Ok l) q =
           let few : length es ≤ 8 = omega (arith, ap length is, length-take o.entries.count o.entries.all, o.entries.few) in
           record { told = record { answer = refer_walks (state_of rs table m) ∙ q.told.answer; row = q.told.row; own = q.told.own; table = q.told.table; few = omega (arith, few, q.told.few) } }
-
--- what the walk from the reference asks
-pub refer_start : (book : CheckedBook) (t : List (Option (List ℕ))) (r m : ℕ) → ReferPre book t r m → (o : Opened) → OpenedAs (records_in book) r o → (es : List Entry) → es ≡ take o.entries.count o.entries.all → WalkPre book t nobody r es o.row m
-refer_start book t r m p o q es is = record {
-  table = p.table;
-  entries = subst (All (Inside (length book.paths.rows.now))) (sym is) (subst (λ (n : ℕ). All (Inside n) (take o.entries.count o.entries.all)) book.listed.size q.entries.inside);
-  row = q.row;
-  own = q.own;
-  few = omega (arith, p.few, ap length is, length-take o.entries.count o.entries.all, o.entries.few);
-}
 
 -- a reference by its text
 module _ (rs : List Parsed) (c : ℕ) (s : Text) (table : List (Option (List ℕ))) (m : ℕ) (f : Option ℕ) (e : f ≡ meant rs c s) where

@@ -2,33 +2,23 @@
 use Rattle.std.proofs.Common.{◌≡◌, ℕ, ◌*◌, ◌^◌, ◌≤◌, ◌<◌, Bool, true, false, List, [], ◌∷◌, map, length, Some, length-append, arith}
 use Rattle.text.specs.Bytes.{Text}
 use Rattle.text.specs.Text.{each_of}
-use Rattle.text.proofs.Picks.{by_test, both_left, both_right}
+use Rattle.text.proofs.Picks.{by_test}
 use Rattle.emit.specs.declared.Output.{Output}
 use Rattle.emit.proofs.Outputs.{Left}
 use Rattle.path.specs.Path.{same_path}
 use Rattle.join.specs.Join.{normalize_with}
-use Rattle.book.specs.declared.Cmd.{Cmd}
 use Rattle.book.specs.Command.{root_dir}
-use Rattle.book.specs.Record.{is, only, strings}
+use Rattle.book.specs.Record.{strings}
 use Rattle.book.specs.Index.{record_at}
 use Rattle.book.specs.Sound.{nil, cons}
 use Rattle.record.specs.Good.{good_command}
-use Rattle.record.proofs.Good.{good_short}
+use Rattle.record.proofs.Good.{strings_short, all_good}
 use Rattle.tsconfig.specs.Laid.{laid}
 use Rattle.tsconfig.specs.Mapping.{in_roots}
 use Rattle.values.proofs.Lengths.{normalize_length, record_length, strings_length}
 use Rattle.targets.specs.Targets.{EachShort}
 use Rattle.roots.specs.Roots.{built_place, roots_of}
 use Rattle.roots.proofs.Roots.{place_length}
-
--- The strings of good commands are short
-pub strings_short : (text : Text) (op : ℕ) (r : List Cmd) → each_of (good_command text) r ≡ true → EachShort (strings text op r)
-unfolding strings only each_of
-strings_short text op [] h = nil
-strings_short text op (c ∷ r) h =
-    let good = both_left (good_command text c) (each_of (good_command text) r) h in
-    let rest = both_right (good_command text c) (each_of (good_command text) r) h in
-    by_test (is op c) (λ t. rw t (cons (good_short text c good) (strings_short text op r rest))) (λ f. rw f (strings_short text op r rest))
 
 module _ (root rest : Text) where
   -- the rest in the root dirs
@@ -71,7 +61,7 @@ module _ (root rest : Text) where
 
     module _ (s text : Text) (at : ℕ) (h : each_of (good_command text) (record_at s at) ≡ true) (k : length s ≤ 32768) where
       bounded : Within (strings text root_dir (record_at s at))
-      bounded = within (strings text root_dir (record_at s at)) (strings_short text root_dir (record_at s at) h)
+      bounded = within (strings text root_dir (record_at s at)) (strings_short text root_dir (record_at s at) (all_good text (record_at s at) h))
 
       pub others_few : length (others (roots_of s text dir own at)) ≤ 32768
       others_few = omega (arith, bounded.count, strings_length text root_dir (record_at s at), record_length s at, k)
@@ -79,7 +69,3 @@ module _ (root rest : Text) where
       -- so that the place to write at can be counted
       pub others_near : (o u : Output) (left : Text) → Left (laid (others (roots_of s text dir own at))) o left u → o.at ≤ 100000 → u.at < 2 ^ 62
       others_near o u left p n = omega (arith, p.owes.next, bounded.size, strings_length text root_dir (record_at s at), record_length s at, k, n)
-
--- what is left to write, said otherwise
-pub left_by : (all x y : Text) (o u : Output) → x ≡ y → Left all o x u → Left all o y u
-left_by all x y o u e p = rw (← e) p

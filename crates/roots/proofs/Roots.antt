@@ -1,5 +1,6 @@
 -- The choice of a root dir, one after the other. Assumes nothing.
 use Rattle.std.proofs.Common.{◌≡◌, ℕ, suc, ◌+◌, ◌≤◌, ◌<◌, Bool, true, false, ◌&&◌, List, [], ◌∷◌, length, Option, Some, None, refl, ap, lt-ltb, le-ltb, arith}
+use mathlib.Core.Bool.{and-false}
 use Rattle.text.specs.Bytes.{Text}
 use Rattle.path.specs.Path.{under}
 use Rattle.tsconfig.specs.Parsed.{placed}
@@ -14,10 +15,6 @@ place_length dir own s = omega (arith, placed_length own s, substituted_length d
 abbrev pub least_of : Option Text → ℕ
 least_of None = 0
 least_of (Some b) = suc (length b)
-
-and_false : (x : Bool) → (x && false) ≡ false
-and_false true = refl
-and_false false = refl
 
 -- of root dirs of which none is left
 pub root_end : (p : Text) (b : Option Text) (rs : List Text) → rs ≡ [] → root_above p b rs ≡ b
@@ -42,7 +39,7 @@ module _ (p : Text) (b : Option Text) (r : Text) (rs : List Text) where
     is_longer (Some x) z n = lt-ltb (length x) (length r) (omega (arith, z, n, ap length e))
 
     pub root_shorter : length v < least → root_above p b (r ∷ rs) ≡ root_above p b rs
-    root_shorter n = passed (rw (not_longer b l n) (and_false (under p r)))
+    root_shorter n = passed (rw (not_longer b l n) (and-false (under p r)))
 
     module _ (m : Bool) (q : m ≡ under p v) where
       pub root_other : m ≡ false → root_above p b (r ∷ rs) ≡ root_above p b rs

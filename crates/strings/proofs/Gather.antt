@@ -2,7 +2,7 @@
 use mathlib.Core.Path.{◌≡◌, refl, sym, ◌∙◌}
 use mathlib.Core.List.{List, [], ◌∷◌}
 use mathlib.Core.Bool.{Bool, true, false, not, ◌&&◌, and-true, and_assoc, not-not}
-use Prim.Native.Nat.{ℕ, ◌+◌}
+use Prim.Native.Nat.{ℕ}
 use native.Mathlib.Omega.{arith}
 use lib.Dec.{eqb}
 use Rattle.std.specs.List.{fold}
@@ -25,17 +25,6 @@ or_none a b =
 pub flag_none : (t : Bool) → eqb (flag t) 0 ≡ not t
 flag_none true = refl
 flag_none false = refl
-
--- The law. R i is the rule for what stands from i on, and bad is what was gathered before i: the rule for the whole is that bad is 0 and
--- the rule for what is left.
-abbrev pub Gathered : (ℕ → Bool) → ℕ → ℕ → Type 0
-Gathered R i bad = R 0 ≡ eqb bad 0 && R i
-
-pub gather_step : (R : ℕ → Bool) (i bad f : ℕ) → Gathered R i bad → R i ≡ eqb f 0 && R (i + 1) → Gathered R (i + 1) (bit_or bad f)
-gather_step R i bad f inv e = inv ∙ rw (e, or_none bad f) (sym (and_assoc (eqb bad 0) (eqb f 0) (R (i + 1))))
-
-pub gather_end : (R : ℕ → Bool) (i bad : ℕ) → Gathered R i bad → R i ≡ true → eqb bad 0 ≡ R 0
-gather_end R i bad inv e = sym (inv ∙ rw e (and-true (eqb bad 0)))
 
 -- A rule of each byte
 

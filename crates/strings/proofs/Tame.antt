@@ -1,5 +1,6 @@
 -- A tame text, and the rules of the strings of one. Assumes nothing.
 use mathlib.Core.Path.{◌≡◌, refl, sym, ap, ◌∙◌}
+use Rattle.std.proofs.lemmas.Bool.{and_parts}
 use mathlib.Core.List.{[], ◌∷◌}
 use mathlib.Core.Bool.{Bool, true, false, not, cond, ◌&&◌, and-true, and-false, true≢false}
 use Prim.Native.Nat.{ℕ, zero, suc, ◌<◌}
@@ -14,26 +15,18 @@ use Rattle.text.proofs.Picks.{by_test}
 use Rattle.strings.specs.Strings.{none_of, plain_byte, string_rule}
 use Rattle.strings.specs.Scan.{within, tame_byte, tame_text}
 
-pub and_left : (a b : Bool) → (a && b) ≡ true → a ≡ true
-and_left true b e = refl
-and_left false b e = e
-
-pub and_right : (a b : Bool) → (a && b) ≡ true → b ≡ true
-and_right true b e = e
-and_right false b e = absurd (true≢false (sym e))
-
 module _ (P : ℕ → Bool) where
   each_drop : (k : ℕ) (s : Text) → each_of P s ≡ true → each_of P (drop k s) ≡ true
   unfolding each_of
   each_drop zero s e = e
   each_drop (suc k) [] e = e
-  each_drop (suc k) (x ∷ s) e = each_drop k s (and_right (P x) (each_of P s) e)
+  each_drop (suc k) (x ∷ s) e = each_drop k s (and_parts (P x) (each_of P s) e).1
 
   each_take : (k : ℕ) (s : Text) → each_of P s ≡ true → each_of P (take k s) ≡ true
   unfolding each_of
   each_take zero s e = refl
   each_take (suc k) [] e = e
-  each_take (suc k) (x ∷ s) e = rw (and_left (P x) (each_of P s) e) (each_take k s (and_right (P x) (each_of P s) e))
+  each_take (suc k) (x ∷ s) e = rw (and_parts (P x) (each_of P s) e).0 (each_take k s (and_parts (P x) (each_of P s) e).1)
 
 -- a byte that is tame is plain, and none of the barred ones
 module _ (x : ℕ) (e : tame_byte x ≡ true) where
@@ -41,10 +34,10 @@ module _ (x : ℕ) (e : tame_byte x ≡ true) where
   other y f q = absurd (true≢false (sym e ∙ ap tame_byte q ∙ f))
 
   range : within 0x22 0x7E x ≡ true
-  range = and_left (within 0x22 0x7E x) _ e
+  range = (and_parts (within 0x22 0x7E x) _ e).0
 
   byte_plain : plain_byte x ≡ true
-  byte_plain = rw (le-leb 0x20 x (omega (arith, leb-true 0x22 x (and_left (leb 0x22 x) _ range))), and_right (leb 0x22 x) _ range, ne_eqb x 0x5C (other 0x5C refl)) refl
+  byte_plain = rw (le-leb 0x20 x (omega (arith, leb-true 0x22 x (and_parts (leb 0x22 x) _ range).0)), (and_parts (leb 0x22 x) _ range).1, ne_eqb x 0x5C (other 0x5C refl)) refl
 
   byte_bare : none_of (bytes "{}[]!") x ≡ true
   unfolding some_of
@@ -53,7 +46,7 @@ module _ (x : ℕ) (e : tame_byte x ≡ true) where
 each_all : (P Q : ℕ → Bool) → ((x : ℕ) → P x ≡ true → Q x ≡ true) → (s : Text) → each_of P s ≡ true → each_of Q s ≡ true
 unfolding each_of
 each_all P Q h [] e = refl
-each_all P Q h (x ∷ s) e = rw (h x (and_left (P x) (each_of P s) e)) (each_all P Q h s (and_right (P x) (each_of P s) e))
+each_all P Q h (x ∷ s) e = rw (h x (and_parts (P x) (each_of P s) e).0) (each_all P Q h s (and_parts (P x) (each_of P s) e).1)
 
 module _ (s : Text) (e : tame_text s ≡ true) where
   pub tame_plain : each_of plain_byte s ≡ true
@@ -79,8 +72,8 @@ unfolding each_below
 below_each P zero e x h = let w : ⊥ = omega arith in absurd w
 below_each P (suc n) e x h =
     by_test (eqb x n)
-    (λ t. let q : x ≡ n = eqb-true x n t in rw q (and_left (P n) (each_below P n) e))
-    (λ f. below_each P n (and_right (P n) (each_below P n) e) x (omega (arith, eqb-false x n f)))
+    (λ t. let q : x ≡ n = eqb-true x n t in rw q (and_parts (P n) (each_below P n) e).0)
+    (λ f. below_each P n (and_parts (P n) (each_below P n) e).1 x (omega (arith, eqb-false x n f)))
 
 -- Two ranges are one where the bit in which a bracket and its brace differ is set: computed for each byte up to the highest.
 abbrev two_ranges : ℕ → Bool

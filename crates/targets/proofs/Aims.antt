@@ -1,32 +1,17 @@
 -- The targets of a key as they are written, one after the other, and how much they are. Assumes nothing.
-use Rattle.std.proofs.Common.{◌≡◌, ℕ, suc, ◌+◌, ◌*◌, ◌≤◌, true, List, [], ◌∷◌, ◌++◌, map, length, take, drop, Option, Some, None, IfSome, option_copied, Bor, refl, length-append, length-take, length-drop, arith}
+use Rattle.std.proofs.Common.{◌≡◌, ℕ, suc, ◌+◌, ◌*◌, ◌≤◌, List, [], ◌∷◌, ◌++◌, map, length, take, drop, Option, Some, None, IfSome, option_copied, Bor, refl, length-append, length-take, length-drop, arith}
 use Rattle.text.specs.Bytes.{Text}
-use Rattle.text.specs.Text.{star_of, each_of}
-use Rattle.text.proofs.Picks.{by_test, both_left, both_right}
+use Rattle.text.specs.Text.{star_of}
 use Rattle.emit.specs.Emit.{Room}
 use Rattle.emit.specs.declared.Output.{Output}
 use Rattle.emit.proofs.Outputs.{puts_none}
-use Rattle.book.specs.declared.Cmd.{Cmd}
-use Rattle.book.specs.Command.{target}
-use Rattle.book.specs.Record.{is, targets_of}
-use Rattle.book.specs.Sound.{nil, cons}
-use Rattle.record.specs.Good.{good_command}
-use Rattle.record.proofs.Good.{good_short}
+use Rattle.book.specs.Sound.{cons}
 use Rattle.tsconfig.specs.Build.{adjusted}
 use Rattle.tsconfig.specs.Mapping.{filled, filled_at}
 use Rattle.tsconfig.specs.Laid.{laid}
 use Rattle.values.proofs.Lengths.{adjusted_length}
 use Rattle.targets.proofs.Lays.{laid_cons}
 use Rattle.targets.specs.Targets.{target_as, EachShort, Short, Fits, Lists}
-
--- The targets of good commands are short
-pub targets_short : (text : Text) (r : List Cmd) → each_of (good_command text) r ≡ true → EachShort (targets_of text r)
-unfolding targets_of each_of
-targets_short text [] h = nil
-targets_short text (c ∷ r) h =
-    let good = both_left (good_command text c) (each_of (good_command text) r) h in
-    let rest = both_right (good_command text c) (each_of (good_command text) r) h in
-    by_test (is target c) (λ t. rw t (cons (good_short text c good) (targets_short text r rest))) (λ f. rw f nil)
 
 -- How long a target is
 

@@ -1,25 +1,25 @@
 -- Laws of the tests and searches: what one step of a scan does to them. Assumes nothing.
-use mathlib.Core.Path.{◌≡◌, refl, ap, sym, subst, ◌∙◌}
+use mathlib.Core.Path.{◌≡◌, refl, ap₂, sym, ◌∙◌}
 use mathlib.Core.List.{List, [], ◌∷◌, ◌++◌}
-use mathlib.Core.Bool.{Bool, true, false, and-false, cond}
-use Prim.Native.Nat.{ℕ, zero, suc, ◌+◌, ◌-◌, ◌≤◌, ◌<◌}
+use mathlib.Core.Bool.{Bool, true, false, and-false, cond, false≢true}
+use Prim.Native.Nat.{ℕ, zero, suc, ◌+◌, ◌≤◌, ◌<◌}
 use native.Mathlib.Numerals.{add-one}
 use native.Mathlib.Nat.{add-zero, add-suc, suc-add}
 use native.Mathlib.Omega.{arith}
-use lib.ListN.{length, get_or, take, drop, drop_of_length-le}
-use lib.Seq.{drop-cons, take-suc, take-length, length-take-le}
+use lib.ListN.{length, get_or, take}
 use lib.Dec.{eqb}
+use Rattle.std.proofs.lemmas.Bool.{and_parts}
 use Rattle.std.proofs.lemmas.Bool.Decides.{nat_tests}
-use borrow.Author.Tests.{eq-eqb, ne_eqb}
+use borrow.Author.Tests.{ne_eqb, eqb-true}
 use Rattle.std.specs.Cmp.Lexicographic.{pointwise}
 use Rattle.std.specs.List.{position_from, list_all, list_any}
 use Rattle.text.specs.Bytes.{Text}
-use Rattle.text.specs.Text.{prefix_of, same_text, some_of, each_of, find_from, find, find_last_from, find_last}
-use Rattle.std.specs.Prelude.{Option, Some, None}
+use Rattle.text.specs.Text.{prefix_of, same_text, some_of, each_of, find_from, find, find_last_from}
+use Rattle.std.specs.Prelude.{Option, Some}
 
 -- As std says it
 
-eqb_sym : (x y : ℕ) → eqb x y ≡ eqb y x
+pub eqb_sym : (x y : ℕ) → eqb x y ≡ eqb y x
 eqb_sym x y = grind (arith, nat_tests)
 
 prefix_is : (p s : Text) → pointwise eqb p (take (length p) s) ≡ prefix_of p s
@@ -31,7 +31,7 @@ prefix_is (x ∷ p) (y ∷ s) = rw (eqb_sym x y, prefix_is p s) refl
 pub prefix_as_std : (r : Bool) (p s : Text) → r ≡ pointwise eqb p (take (length p) s) → r ≡ prefix_of p s
 prefix_as_std r p s e = e ∙ prefix_is p s
 
-same_is : (a b : Text) → pointwise eqb a b ≡ same_text a b
+pub same_is : (a b : Text) → pointwise eqb a b ≡ same_text a b
 unfolding same_text
 same_is [] [] = refl
 same_is [] (y ∷ b) = refl
@@ -40,6 +40,13 @@ same_is (x ∷ a) (y ∷ b) = rw (same_is a b) refl
 
 pub same_as_std : (r : Bool) (a b : Text) → r ≡ pointwise eqb a b → r ≡ same_text a b
 same_as_std r a b e = e ∙ same_is a b
+
+pub same_eq : (a b : Text) → same_text a b ≡ true → a ≡ b
+unfolding same_text
+same_eq [] [] e = refl
+same_eq [] (y ∷ b) e = absurd (false≢true e)
+same_eq (x ∷ a) [] e = absurd (false≢true e)
+same_eq (x ∷ a) (y ∷ b) e = let h = and_parts (eqb x y) (same_text a b) e in ap₂ ◌∷◌ (eqb-true x y h.0) (same_eq a b h.1)
 
 pub position_as_find : (b i : ℕ) (s : Text) → position_from (λ (x : ℕ). eqb x b) i s ≡ find_from b i s
 unfolding find_from
@@ -78,51 +85,12 @@ unfolding some_of
 some_as_std ok [] = refl
 some_as_std ok (x ∷ xs) = rw (some_as_std ok xs) refl
 
--- The first place of a byte
-
-module _ (b : ℕ) (s : Text) (i : ℕ) where
-  pub find_here : i < length s → get_or s i 0 ≡ b → find_from b i (drop i s) ≡ Some i
-  unfolding find_from
-  find_here h e = rw (drop-cons s i 0, eq-eqb _ _ e)
-
-  pub find_on : i < length s → (get_or s i 0 ≡ b → ⊥) → find_from b i (drop i s) ≡ find_from b (i + 1) (drop (i + 1) s)
-  unfolding find_from
-  find_on h e = rw (add-one, drop-cons s i 0, ne_eqb _ _ e)
-
-  pub find_end : length s ≤ i → find_from b i (drop i s) ≡ None
-  unfolding find_from
-  find_end h = rw (drop_of_length-le s h)
-
--- The last
+-- The last place of a byte
 
 pub last_more : (b : ℕ) (f : Option ℕ) (i : ℕ) (s : Text) (x : ℕ) → find_last_from b f i (s ++ (x ∷ [])) ≡ cond (eqb x b) (Some (i + length s)) (find_last_from b f i s)
 unfolding find_last_from
 last_more b f i [] x = rw add-zero
 last_more b f i (y ∷ s) x = last_more b (cond (eqb y b) (Some i) f) (suc i) s x ∙ rw (add-suc, suc-add)
-
-last_suc : (b : ℕ) (s : Text) (i : ℕ) → i < length s → find_last b (take (suc i) s) ≡ cond (eqb (get_or s i 0) b) (Some i) (find_last b (take i s))
-last_suc b s i h =
-    let e : 0 + length (take i s) ≡ i = omega (arith, length-take-le i s (omega arith)) in
-    rw (take-suc s i 0 h) (last_more b None 0 (take i s) (get_or s i 0) ∙ ap (λ (n : ℕ). cond (eqb (get_or s i 0) b) (Some n) (find_last b (take i s))) e)
-
--- a scan from the end, whose next place is i - 1
-module _ (b : ℕ) (s : Text) (i : ℕ) (some : 0 < i) (h : i ≤ length s) where
-  last_before : find_last b (take i s) ≡ cond (eqb (get_or s (i - 1) 0) b) (Some (i - 1)) (find_last b (take (i - 1) s))
-  last_before = let z : suc (i - 1) ≡ i = omega arith in rw z at (last_suc b s (i - 1) (omega arith))
-
-  module _ (inv : find_last b (take i s) ≡ find_last b s) where
-    pub last_here : get_or s (i - 1) 0 ≡ b → Some (i - 1) ≡ find_last b s
-    last_here e = sym (rw (eq-eqb _ _ e) at last_before) ∙ inv
-
-    pub last_on : (get_or s (i - 1) 0 ≡ b → ⊥) → find_last b (take (i - 1) s) ≡ find_last b s
-    last_on e = sym (rw (ne_eqb _ _ e) at last_before) ∙ inv
-
-pub last_start : (b : ℕ) (s : Text) → find_last b (take (length s) s) ≡ find_last b s
-last_start b s = ap (find_last b) (take-length s)
-
-pub last_none : (b : ℕ) (s : Text) (i : ℕ) → i ≤ 0 → find_last b (take i s) ≡ find_last b s → None ≡ find_last b s
-unfolding find_last_from
-last_none b s i h e = let z : i ≡ 0 = omega arith in (rw z at e)
 
 -- What a search that found a byte says: it is within the text, the byte stands there, and before it, or after it, the byte does not stand
 

@@ -29,7 +29,7 @@ use Rattle.targets.proofs.Lays.{laid_append}
 use Rattle.roots.specs.Roots.{roots_of}
 use Rattle.sites.specs.Sites.{settings_in}
 use Rattle.sites.specs.declared.Config.{Config}
-use Rattle.mapping.proofs.Mapped.{map_map}
+use mathlib.Core.List.{map-map}
 use Rattle.mapping.proofs.Sites.{said_some, dir_is}
 
 -- What a row says of rootDirs
@@ -61,7 +61,7 @@ module _ (c : Config) where
       site_at_lem b.commands.now b.paths.text.now b.paths.rows.now b.records row c.named c.dir.now (dir_is c) config.base refl root_dirs rec q
       ∙ ap (λ (o : Option (List Text)). option_map (built_value c.dir.now config.base root_dirs) (option_map (placed_value own root_dirs) o))
       (listed_some b.paths.text.now command.root_dirs command.root_dir (read b.commands.now rec) (said_some c root_dirs rec q))
-      ∙ ap Some (map_map (substituted c.dir.now) (placed own) (strings b.paths.text.now command.root_dir (read b.commands.now rec)))
+      ∙ ap Some (map-map (substituted c.dir.now) (placed own) (strings b.paths.text.now command.root_dir (read b.commands.now rec)))
 
 -- The tries of a config
 

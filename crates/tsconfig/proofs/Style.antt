@@ -1,7 +1,8 @@
 -- The test for solution style changes no answer: such a config claims nothing by itself.
 use mathlib.Core.Path.{◌≡◌, refl}
+use Rattle.std.proofs.lemmas.Bool.{and_parts}
 use mathlib.Core.List.{List, [], ◌∷◌}
-use mathlib.Core.Bool.{Bool, true, false, not, ◌&&◌, false≢true}
+use mathlib.Core.Bool.{true, false, not, false≢true, and-false}
 use Rattle.std.specs.Prelude.{Option, Some, None}
 use Rattle.text.specs.Bytes.{Text}
 use Rattle.text.specs.Text.{some_of}
@@ -21,22 +22,10 @@ not_included s path None h = absurd (false≢true h)
 not_included s path (Some []) h = refl
 not_included s path (Some (x ∷ xs)) h = absurd (false≢true h)
 
-and_false : (b : Bool) → b && false ≡ false
-and_false true = refl
-and_false false = refl
-
-and_right : (a b : Bool) → a && b ≡ true → b ≡ true
-and_right true b h = h
-and_right false b h = absurd (false≢true h)
-
-and_left : (a b : Bool) → a && b ≡ true → a ≡ true
-and_left true b h = refl
-and_left false b h = absurd (false≢true h)
-
 pub solution_style_idle : (path : Text) (s : Site) (refs : List Site) → solution_style s refs ≡ true → claims path s ≡ false
 unfolding solution_style claims
 solution_style_idle path s refs h =
-    let e = and_right (not (no_references refs)) _ h in
-    rw (not_listed path (s.config.named files) (and_left (is_empty_list (s.config.named files)) _ e)) (
-    rw (not_included s path (s.config.named include) (and_right (is_empty_list (s.config.named files)) _ e)) (
-    and_false (not (outside (allow_js s.config) (extension path)))))
+    let e = (and_parts (not (no_references refs)) _ h).1 in
+    rw (not_listed path (s.config.named files) (and_parts (is_empty_list (s.config.named files)) _ e).0) (
+    rw (not_included s path (s.config.named include) (and_parts (is_empty_list (s.config.named files)) _ e).1) (
+    and-false (not (outside (allow_js s.config) (extension path)))))

@@ -1,6 +1,7 @@
 -- Demand 3, whole.
 -- Assumes nothing.
 use mathlib.Core.Path.{◌≡◌, refl, sym, ap, ap₂, ◌∙◌}
+use Rattle.std.proofs.lemmas.List.{map-append}
 use mathlib.Core.List.{List, [], ◌∷◌, ◌++◌, map, append_assoc, append-nil, Memᴰ}
 use Rattle.std.specs.Prelude.{unwrap_or}
 use Prim.Native.Nat.{ℕ, zero, suc, ◌<◌}
@@ -16,7 +17,7 @@ use lib.ListN.{length}
 use Rattle.tsconfig_resolver.proofs.Inside.{inside}
 use Rattle.tsconfig_resolver.specs.Demand3.{joins, own_way, LineRule}
 use Rattle.tsconfig.proofs.Flat.{first_map, last_map, bracket}
-use Rattle.tsconfig_resolver.proofs.Load.{map_append, whole}
+use Rattle.tsconfig_resolver.proofs.Load.{whole}
 
 module _ {Val : Field → Type 0} {B : Type 0} (b : Configs Val B) where
   joins_leaves :
@@ -25,7 +26,7 @@ module _ {Val : Field → Type 0} {B : Type 0} (b : Configs Val B) where
   joins_leaves up w h [] t = sym (append-nil (leaves t))
   joins_leaves up w h (p ∷ ps) t =
       joins_leaves up w h ps (join t (w p)) ∙ append_assoc (leaves t) (leaves (w p)) (map b.own (lines up ps))
-      ∙ ap (leaves t ++◌) (ap (◌++ map b.own (lines up ps)) (h p) ∙ sym (map_append b.own (p ∷ up p) (lines up ps)))
+      ∙ ap (leaves t ++◌) (ap (◌++ map b.own (lines up ps)) (h p) ∙ sym (map-append b.own (p ∷ up p) (lines up ps)))
 
   own_leaves : (k c : ℕ) → leaves (own_way b k c) ≡ map b.own (c ∷ rest b k c)
   unfolding own_way rest

@@ -1,6 +1,7 @@
 -- A line's equation: where a record's extends end within the size of the book, its line is itself and then its parents' lines, with no word of a bound.
 -- Assumes nothing.
 use mathlib.Core.Path.{◌≡◌, refl, sym, ap, ap₂, ◌∙◌}
+use Rattle.std.proofs.lemmas.Bool.{false_from_ne_true}
 use mathlib.Core.Bool.{Bool, true, false, ◌||◌, false≢true}
 use mathlib.Core.List.{List, [], ◌∷◌, ◌++◌, Memᴰ}
 use Prim.Native.Nat.{ℕ, zero, suc, ◌≤◌, ◌<◌}
@@ -20,10 +21,6 @@ lines_same u v (p ∷ ps) h =
 either : {X : Type 0} (a b : Bool) → a || b ≡ true → (a ≡ true → X) → (b ≡ true → X) → X
 either true b h f g = f refl
 either false b h f g = g h
-
-never_true : (a : Bool) → (a ≡ true → ⊥) → a ≡ false
-never_true true h = absurd (h refl)
-never_true false h = refl
 
 -- a record of the lines of some records is one of these, or stands above one
 lines_elem :
@@ -73,7 +70,7 @@ module _ {Val : Field → Type 0} {B : Type 0} (b : Configs Val B) where
   circle (suc h) k c w e = circle h k c (above_within k h c c w e) e
 
   pub no_circle : (h k c : ℕ) → Within h c → elem c (rest b k c) ≡ false
-  no_circle h k c w = never_true (elem c (rest b k c)) (circle h k c w)
+  no_circle h k c w = false_from_ne_true (elem c (rest b k c)) (circle h k c w)
 
   -- every record of a line is the book's
   lines_below :

@@ -3,6 +3,8 @@
 pub mod References
 pub mod Room
 use mathlib.Core.Path.{◌≡◌, refl, sym, ap, ap₂, ◌∙◌, subst}
+use Rattle.std.proofs.lemmas.Bool.{or_left, or_right}
+use Rattle.std.proofs.lemmas.List.{map-append}
 use mathlib.Core.List.{List, [], ◌∷◌, ◌++◌, map, reverse, append-nil, append_assoc, Memᴰ}
 use mathlib.Core.Bool.{Bool, true, false, ◌||◌, cond, or_assoc, or-false, true≢false, false≢true}
 use Rattle.std.specs.Prelude.{Option, Some, None}
@@ -51,20 +53,13 @@ or_swap true true c = refl
 or_swap true false c = refl
 or_swap false b c = refl
 
-or_right : (a : Bool) {b : Bool} → b ≡ true → a || b ≡ true
-or_right true h = refl
-or_right false h = h
-
-or_left : {a : Bool} (b : Bool) → a ≡ true → a || b ≡ true
-or_left b h = rw h
-
 or_absorb : (a b : Bool) → (b ≡ true → a ≡ true) → a ≡ a || b
 or_absorb true b h = refl
 or_absorb false true h = h refl
 or_absorb false false h = refl
 
 add_self : (c : ℕ) (chain : ℕ → Bool) → add c chain c ≡ true
-add_self c chain = or_left (chain c) (eq-eqb c c refl)
+add_self c chain = or_left _ (chain c) (eq-eqb c c refl)
 
 off_chain : (a : Bool) (o : Option ℕ) → cond a (Some 9) o ≡ None → a ≡ false
 off_chain true o e = cc
@@ -72,13 +67,9 @@ off_chain false o e = refl
 
 -- a parent stands in its own line
 lines_mem : (u : ℕ → List ℕ) (p : ℕ) (ps : List ℕ) → Memᴰ p ps → elem p (lines u ps) ≡ true
-lines_mem u p ps (Memᴰ.head {x = q} e) = or_left _ (eq-eqb p q e)
+lines_mem u p ps (Memᴰ.head {x = q} e) = or_left _ _ (eq-eqb p q e)
 lines_mem u p ps (Memᴰ.tail {x = q} {xs = qs} m) =
-    or_right (eqb p q) (elem_append p (u q) (lines u qs) ∙ or_right (elem p (u q)) (lines_mem u p qs m))
-
-pub map_append : {A C : Type 0} (f : A → C) (xs ys : List A) → map f (xs ++ ys) ≡ map f xs ++ map f ys
-map_append f [] ys = refl
-map_append f (x ∷ xs) ys = ap (f x ∷◌) (map_append f xs ys)
+    or_right (eqb p q) _ (elem_append p (u q) (lines u qs) ∙ or_right (elem p (u q)) _ (lines_mem u p qs m))
 
 -- Answers that are no refusal.
 
@@ -200,7 +191,7 @@ module _ {Val : Field → Type 0} {B : Type 0} (b : Configs Val B) where
       let (zs, st) = parent_step chain one ld p s v (lt p (Memᴰ.head refl)) h k (s.table p) refl q₁ in
       let now : merge x v.config ≡ flat (b.own c) (map b.own (pre ++ line b p)) =
       ap₂ merge e zs ∙ sym (flat_append (b.own c) (map b.own pre) (b.own p) (map b.own (above b p)))
-      ∙ ap (flat (b.own c)) (sym (map_append b.own pre (line b p)))
+      ∙ ap (flat (b.own c)) (sym (map-append b.own pre (line b p)))
       in
       let (ys, su) =
       walk_step chain one ld c es (λ p' m. lt p' (Memᴰ.tail m)) (pre ++ line b p) (merge x v.config) (counted v.state) now st.sound
@@ -227,7 +218,7 @@ module _ {Val : Field → Type 0} {B : Type 0} (b : Configs Val B) where
 
     -- a record of the parents' lines is in the table
     parents_in : (i : ℕ) → elem i (lines (above b) (parents b c)) ≡ true → has (t.table i) ≡ true
-    parents_in i m = w.domain i ∙ or_right (has (s.table i)) m
+    parents_in i m = w.domain i ∙ or_right (has (s.table i)) _ m
 
     self_within : Within b (suc (held t.table)) c
     self_within p m = w.sound.short p (parents_in p (lines_mem (above b) p (parents b c) m))
@@ -258,12 +249,12 @@ module _ {Val : Field → Type 0} {B : Type 0} (b : Configs Val B) where
         record {
           value = λ p y q. put_value p y (eqb p c) refl q;
           short = λ p q. put_short p (eqb p c) refl (sym (put_has p) ∙ q);
-          closed = λ p i q m. put_has i ∙ or_right (eqb i c) (put_closed p i (eqb p c) refl (sym (put_has p) ∙ q) m);
+          closed = λ p i q m. put_has i ∙ or_right (eqb i c) _ (put_closed p i (eqb p c) refl (sym (put_has p) ∙ q) m);
         }
 
     put_clear : (i : ℕ) → chain i ≡ true → has ((put c x t).table i) ≡ false
     put_clear i m =
-        put_has i ∙ ap₂ ◌||◌ (ne_eqb i c (λ q. true≢false (sym (rw q at m) ∙ off))) (w.clear i (or_right (eqb i c) m))
+        put_has i ∙ ap₂ ◌||◌ (ne_eqb i c (λ q. true≢false (sym (rw q at m) ∙ off))) (w.clear i (or_right (eqb i c) _ m))
 
     put_domain : (i : ℕ) → has ((put c x t).table i) ≡ has (s.table i) || elem i (line b c)
     put_domain i =

@@ -1,7 +1,8 @@
 -- A key that is taken in passing, and one that is not. Assumes nothing.
 use mathlib.Core.Path.{◌≡◌, refl, sym, ap, ◌∙◌}
+use Rattle.std.proofs.lemmas.Bool.{and_parts}
 use mathlib.Core.List.{List, [], ◌∷◌, ◌++◌}
-use mathlib.Core.Bool.{Bool, true, false, not, ◌&&◌, true≢false}
+use mathlib.Core.Bool.{Bool, true, false, not, ◌&&◌, true≢false, and-true}
 use Rattle.std.specs.Prelude.{Some, None}
 use Prim.Native.Nat.{ℕ, ◌+◌, ◌-◌, ◌≤◌, ◌<◌}
 use native.Mathlib.Omega.{arith}
@@ -15,7 +16,6 @@ use Rattle.text.specs.Text.{some_of}
 use Rattle.text.proofs.Picks.{by_test}
 use Rattle.compare.specs.Compare.{digest_of}
 use Rattle.strings.specs.Strings.{string_rule}
-use Rattle.strings.proofs.Tame.{and_left, and_right}
 use Rattle.book.specs.declared.Cmd.{Cmd}
 use Rattle.std.specs.Prelude.{Result, Ok}
 use Rattle.book.specs.declared.Stop.{Stop}
@@ -38,11 +38,7 @@ pub held_good : (text : Text) (c : Cmd) → c.op ≡ key → (r : Bool) → r �
 unfolding good_string
 held_good text c k r e =
     e ∙ ap (λ (b : Bool). leb (c.start + c.len) (length text) && b)
-    (same (string_rule (text_of text c)) ∙ ap (λ (b : Bool). string_rule (text_of text c) && b) (sym (ap (λ (o : ℕ). own_rule o (text_of text c)) k ∙ plain (text_of text c))))
-  where
-    same : (b : Bool) → b ≡ (b && true)
-    same true = refl
-    same false = refl
+    (sym (and-true (string_rule (text_of text c))) ∙ ap (λ (b : Bool). string_rule (text_of text c) && b) (sym (ap (λ (o : ℕ). own_rule o (text_of text c)) k ∙ plain (text_of text c))))
 
 new_key : (keys paths : List Text) (s : Text) → some_of (meets false s) keys ≡ false → given_before keys paths key s ≡ false
 unfolding given_before meets
@@ -98,16 +94,16 @@ module _ (part : Text) (at : ℕ) (text : Text) (ns : List ℕ) (keys : List See
     told = fine
 
     rest : (not (eqb (has ns 10) 0) && (ltb (has ns key) 32 && (good_string text (operands 4 (drop at part)) && not (some_of (meets false (text_of text (operands 4 (drop at part)))) (texts text keys))))) ≡ true
-    rest = and_right (not (leb (length part - at) 4)) _ told
+    rest = (and_parts (not (leb (length part - at) 4)) _ told).1
 
     rest₂ : (ltb (has ns key) 32 && (good_string text (operands 4 (drop at part)) && not (some_of (meets false (text_of text (operands 4 (drop at part)))) (texts text keys)))) ≡ true
-    rest₂ = and_right (not (eqb (has ns 10) 0)) _ rest
+    rest₂ = (and_parts (not (eqb (has ns 10) 0)) _ rest).1
 
     rest₃ : (good_string text (operands 4 (drop at part)) && not (some_of (meets false (text_of text (operands 4 (drop at part)))) (texts text keys))) ≡ true
-    rest₃ = and_right (ltb (has ns key) 32) _ rest₂
+    rest₃ = (and_parts (ltb (has ns key) 32) _ rest₂).1
 
     pub key_long : 4 < length part - at
-    key_long = leb-false (length part - at) 4 (not-true _ (and_left (not (leb (length part - at) 4)) _ told))
+    key_long = leb-false (length part - at) 4 (not-true _ (and_parts (not (leb (length part - at) 4)) _ told).0)
 
     pub key_op : key ≡ (operands 4 (drop at part)).op
     unfolding operands
@@ -118,7 +114,7 @@ module _ (part : Text) (at : ℕ) (text : Text) (ns : List ℕ) (keys : List See
     key_reads = sym (step_command part at 4 (operands 4 (drop at part)) (omega (arith, key_long)) (sym (ap width_of byte)) (λ e. absurd (omega (arith, e))) key_long refl)
 
     pub key_room : has ns key < 32
-    key_room = ltb-true (has ns key) 32 (and_left (ltb (has ns key) 32) _ rest₂)
+    key_room = ltb-true (has ns key) 32 (and_parts (ltb (has ns key) 32) _ rest₂).0
 
     module _ (last : ℕ) where
       pub key_slotted : slotted (operands 4 (drop at part)) ≡ Some key
@@ -127,10 +123,10 @@ module _ (part : Text) (at : ℕ) (text : Text) (ns : List ℕ) (keys : List See
       pub key_clear : (n : ℕ) (paths : List Text) → fault_of text (has ns) last n (texts text keys) paths (operands 4 (drop at part)) ≡ None
       key_clear n paths =
           clear_of text ns last (operands 4 (drop at part)) key key_op (omega arith) (λ e. absurd (omega (arith, e))) (λ e. absurd (omega (arith, e)))
-          (λ e. absurd (omega (arith, e))) refl (and_left (not (eqb (has ns 10) 0)) _ rest) key_room (and_left (good_string text (operands 4 (drop at part))) _ rest₃) n
+          (λ e. absurd (omega (arith, e))) refl (and_parts (not (eqb (has ns 10) 0)) _ rest).0 key_room (and_parts (good_string text (operands 4 (drop at part))) _ rest₃).0 n
           (texts text keys) paths
           (ap (λ (o : ℕ). given_before (texts text keys) paths o (text_of text (operands 4 (drop at part)))) (sym key_op)
-          ∙ new_key (texts text keys) paths (text_of text (operands 4 (drop at part))) (not-true _ (and_right (good_string text (operands 4 (drop at part))) _ rest₃)))
+          ∙ new_key (texts text keys) paths (text_of text (operands 4 (drop at part))) (not-true _ (and_parts (good_string text (operands 4 (drop at part))) _ rest₃).1))
 
 pub lone_no_key : (op : ℕ) → OneOf lone op → op ≡ key → ⊥
 lone_no_key op h = eqb-false op key (not-true _ (at_keys (λ i. not (eqb i key)) lone tt op h))

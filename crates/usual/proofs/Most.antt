@@ -1,7 +1,8 @@
 -- How many of a command there may be now, by the arms of the code. Assumes nothing.
 use mathlib.Core.Path.{◌≡◌, refl, sym, ◌∙◌}
+use Rattle.std.proofs.lemmas.Bool.{and_parts, or_parts}
 use mathlib.Core.List.{List, [], ◌∷◌}
-use mathlib.Core.Bool.{Bool, true, false, not, ◌&&◌, ◌||◌, cond, true≢false}
+use mathlib.Core.Bool.{Bool, true, false, not, ◌&&◌, ◌||◌, cond}
 use Prim.Native.Nat.{ℕ, ◌-◌}
 use lib.ListN.{get_or}
 use lib.Dec.{T, eqb, ltb}
@@ -9,7 +10,6 @@ use types.Run.{OneOf}
 use mathlib.Core.Logic.{inl, inr}
 use borrow.Author.Tests.{eqb-true, eqb-false, ltb-true, not-true}
 use Rattle.text.proofs.Picks.{by_test}
-use Rattle.strings.proofs.Tame.{and_left, and_right}
 use Rattle.book.specs.Command.{begin, key, target, widths, width_of}
 use Rattle.book.specs.Rules.{openers}
 use Rattle.book.specs.State.{has}
@@ -26,16 +26,16 @@ module _ (ns : List ℕ) (last : ℕ) where
   unfolding most_now armed
   most_keys f m ks t op h r e =
       let a : armed f m op ≡ true = at_keys (armed f m) ks t op h in
-      let a₂ = and_right (eqb (width_of op) 4) _ a in
-      let a₃ = and_right (not (eqb op begin || eqb op key)) _ a₂ in
-      let a₄ = and_right (not (eqb op target)) _ a₃ in
-      let a₅ = and_right (eqb (get_or openers op 0) (f op)) _ a₄ in
-      let w = and_left (eqb (width_of op) 4) _ a in
-      let n = and_left (not (eqb op begin || eqb op key)) _ a₂ in
-      let t = and_left (not (eqb op target)) _ a₃ in
-      let q = eqb-true (get_or openers op 0) (f op) (and_left (eqb (get_or openers op 0) (f op)) _ a₄) in
-      let z = not-true (eqb (f op) 0) (and_left (not (eqb (f op) 0)) _ a₅) in
-      let l = eqb-true (most_of op) m (and_right (not (eqb (f op) 0)) _ a₅) in
+      let a₂ = (and_parts (eqb (width_of op) 4) _ a).1 in
+      let a₃ = (and_parts (not (eqb op begin || eqb op key)) _ a₂).1 in
+      let a₄ = (and_parts (not (eqb op target)) _ a₃).1 in
+      let a₅ = (and_parts (eqb (get_or openers op 0) (f op)) _ a₄).1 in
+      let w = (and_parts (eqb (width_of op) 4) _ a).0 in
+      let n = (and_parts (not (eqb op begin || eqb op key)) _ a₂).0 in
+      let t = (and_parts (not (eqb op target)) _ a₃).0 in
+      let q = eqb-true (get_or openers op 0) (f op) (and_parts (eqb (get_or openers op 0) (f op)) _ a₄).0 in
+      let z = not-true (eqb (f op) 0) (and_parts (not (eqb (f op) 0)) _ a₅).0 in
+      let l = eqb-true (most_of op) m (and_parts (not (eqb (f op) 0)) _ a₅).1 in
       e ∙ by_test (eqb (has ns (f op)) 0) (λ y. rw (w, n, t, q, z, y) refl) (λ y. rw (w, n, t, q, z, y, l) refl)
 
   pub items_now : (op : ℕ) → OneOf (3 ∷ 5 ∷ 7 ∷ []) op → (r : ℕ) → r ≡ cond (eqb (has ns (op - 1)) 0) 0 64 → r ≡ most_now ns last op
@@ -116,25 +116,20 @@ pub record Now (ns : List ℕ) (last op most : ℕ) : Type 0 where
   pub unlocked : (eqb (get_or openers op 0) 0 || not (eqb (has ns (get_or openers op 0)) 0)) ≡ true
   pub is : most ≡ most_of op
 
-neither : (a b : Bool) → not (a || b) ≡ true → (a ≡ false) × (b ≡ false)
-neither true b e = absurd (true≢false (sym e))
-neither false true e = absurd (true≢false (sym e))
-neither false false e = (refl, refl)
-
 pub now : (ns : List ℕ) (last op most : ℕ) → most ≡ most_now ns last op → (most ≡ 0 → ⊥) → Now ns last op most
 unfolding most_now
 now ns last op most e n =
     by_test (eqb (width_of op) 4 && (not (eqb op begin || eqb op key) && open_now ns last op))
     (λ y.
-    let y₂ = and_right (eqb (width_of op) 4) _ y in
-    let y₃ = and_right (not (eqb op begin || eqb op key)) _ y₂ in
-    let z = neither (eqb op begin) (eqb op key) (and_left (not (eqb op begin || eqb op key)) _ y₂) in
+    let y₂ = (and_parts (eqb (width_of op) 4) _ y).1 in
+    let y₃ = (and_parts (not (eqb op begin || eqb op key)) _ y₂).1 in
+    let z = or_parts (eqb op begin) (eqb op key) (not-true _ (and_parts (not (eqb op begin || eqb op key)) _ y₂).0) in
     record {
-      width = eqb-true (width_of op) 4 (and_left (eqb (width_of op) 4) _ y);
+      width = eqb-true (width_of op) 4 (and_parts (eqb (width_of op) 4) _ y).0;
       no_begin = eqb-false op begin z.0;
       no_key = eqb-false op key z.1;
-      follow = and_left (not (eqb op target) || (eqb last key || eqb last target)) _ y₃;
-      unlocked = and_right (not (eqb op target) || (eqb last key || eqb last target)) _ y₃;
+      follow = (and_parts (not (eqb op target) || (eqb last key || eqb last target)) _ y₃).0;
+      unlocked = (and_parts (not (eqb op target) || (eqb last key || eqb last target)) _ y₃).1;
       is = e ∙ rw y refl;
     })
     (λ y. absurd (n (e ∙ rw y refl)))

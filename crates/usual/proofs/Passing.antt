@@ -1,5 +1,6 @@
 -- A command that fits is usual, and so is one without operands that comes for the first time. Assumes nothing.
 use mathlib.Core.Path.{◌≡◌, refl, sym, ap, ◌∙◌}
+use Rattle.std.proofs.lemmas.Bool.{and_parts}
 use mathlib.Core.List.{List, [], ◌∷◌}
 use mathlib.Core.Bool.{Bool, true, false, not, ◌&&◌, ◌||◌, cond, or-true}
 use Rattle.std.specs.Prelude.{Some, None}
@@ -16,7 +17,6 @@ use Rattle.text.proofs.Picks.{by_test}
 use Rattle.book.specs.declared.Cmd.{Cmd}
 use Rattle.std.specs.Prelude.{Ok}
 use Rattle.strings.specs.Strings.{string_rule}
-use Rattle.strings.proofs.Tame.{and_left, and_right}
 use Rattle.book.specs.Command.{begin, key, target, flag, text_option, end, widths, width_of, operands}
 use Rattle.book.specs.Rules.{slot, in_range, openers, limits, in_order, too_many, text_of, own_rule, good_string, given_before, fault_of}
 use Rattle.book.specs.Steps.{step_at}
@@ -166,14 +166,14 @@ module _ (part text : Text) (ns₀ : List ℕ) (last at : ℕ) where
         fit = sym fb ∙ yes
 
         pub long : 4 < length part - to
-        long = leb-false (length part - to) 4 (not-true _ (and_left (not (leb (length part - to) 4)) _ fit))
+        long = leb-false (length part - to) 4 (not-true _ (and_parts (not (leb (length part - to) 4)) _ fit).0)
 
         byte : get_or part to 0 ≡ op
-        byte = eqb-true _ _ (and_left (eqb (get_or part to 0) op) _ (and_right (not (leb (length part - to) 4)) _ fit))
+        byte = eqb-true _ _ (and_parts (eqb (get_or part to 0) op) _ (and_parts (not (leb (length part - to) 4)) _ fit).1).0
 
         good : good_string text cmd ≡ true
         unfolding cmd
-        good = and_right (eqb (get_or part to 0) op) _ (and_right (not (leb (length part - to) 4)) _ fit)
+        good = (and_parts (eqb (get_or part to 0) op) _ (and_parts (not (leb (length part - to) 4)) _ fit).1).1
 
         op_is : op ≡ cmd.op
         unfolding cmd operands
@@ -222,10 +222,10 @@ module _ (part text : Text) (ns₀ : List ℕ) (last at : ℕ) where
 
     module _ (yes : b ≡ true) where
       pub begun_here : eqb (has ns₀ begin) 0 ≡ false
-      begun_here = not-true _ (and_left _ (eqb (has ns₀ k) 0) (sym bv ∙ yes))
+      begun_here = not-true _ (and_parts _ (eqb (has ns₀ k) 0) (sym bv ∙ yes)).0
 
       pub first : has ns₀ k ≡ 0
-      first = eqb-true (has ns₀ k) 0 (and_right (not (eqb (has ns₀ begin) 0)) _ (sym bv ∙ yes))
+      first = eqb-true (has ns₀ k) 0 (and_parts (not (eqb (has ns₀ begin) 0)) _ (sym bv ∙ yes)).1
 
       pub counted_once : set ns₀ k (has ns₀ k + 1) ≡ ns
       counted_once = rw first (sym (nv ∙ rw (← bv, yes) refl))

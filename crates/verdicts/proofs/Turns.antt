@@ -1,14 +1,16 @@
 -- The record checker's loop: what holds at each turn, and each way out of a turn. Assumes nothing.
 use mathlib.Core.Path.{◌≡◌, refl, sym, ap, subst, fun_ext, ◌∙◌}
+use Rattle.std.proofs.lemmas.Option.{none-some}
+use Rattle.std.proofs.lemmas.Bool.{and_parts}
 use mathlib.Core.List.{List, [], ◌∷◌, ◌++◌, map, reverse, reverse_aux}
-use mathlib.Core.Bool.{Bool, true, false, not, ◌&&◌, ◌||◌, cond, true≢false}
+use mathlib.Core.Bool.{Bool, true, false, not, ◌||◌, cond, true≢false}
 use Rattle.std.specs.Prelude.{Option, Some, None}
 use Prim.Native.Nat.{ℕ, suc, ◌+◌, ◌-◌, ◌≤◌, ◌<◌}
 use native.Mathlib.Omega.{arith}
 use native.Mathlib.Numerals.{add-one}
 use native.Mathlib.Nat.{add-zero}
 use lib.ListN.{length, get_or, take, drop, replicate}
-use lib.Dec.{T, eqb, leb}
+use lib.Dec.{eqb, leb}
 use borrow.Author.Tests.{eq-eqb, ne_eqb, eqb-true, eqb-false, leb-false}
 use Rattle.text.specs.Bytes.{Text}
 use Rattle.book.specs.declared.Cmd.{Cmd}
@@ -31,8 +33,8 @@ use Rattle.book.specs.Steps.{step_at}
 use Rattle.book.proofs.Steps.{decoded, decode_step, Moved, step_moves, step_ends, step_begins}
 use Rattle.text.proofs.Picks.{by_test}
 use Rattle.faults.proofs.Keeps.{slotted_some, slot_small, agree_push, agree_none, limits_small, slot_key}
-use Rattle.book.proofs.Table.{at_each}
-use Rattle.faults.proofs.Faults.{nothing, good_within, fault_kept, fault_given}
+use Rattle.book.proofs.Table.{at_each, T_true}
+use Rattle.faults.proofs.Faults.{good_within, fault_kept, fault_given}
 
 -- what a command without a fault is
 pub record Clear (text : Text) (count : ℕ → ℕ) (last n : ℕ) (keys paths : List Text) (c : Cmd) : Type 0 where
@@ -48,20 +50,12 @@ module _ (text : Text) (count : ℕ → ℕ) (last n : ℕ) (keys paths : List T
       by_test (in_order count last c)
       (λ a. by_test (good_string text c)
       (λ b. by_test (too_many count last c n)
-      (λ d. let y : Some 5 ≡ None = rw (a, b, d) at z in nothing (sym y))
+      (λ d. let y : Some 5 ≡ None = rw (a, b, d) at z in absurd (none-some _ (sym y)))
       (λ d. by_test (given_before keys paths c.op (text_of text c))
-      (λ f. let y : Some 6 ≡ None = rw (a, b, d, f) at z in nothing (sym y))
+      (λ f. let y : Some 6 ≡ None = rw (a, b, d, f) at z in absurd (none-some _ (sym y)))
       (λ f. record { order = a; string = b; few = d; none_at = z })))
-      (λ b. let y : Some 4 ≡ None = rw (a, b) at z in nothing (sym y)))
-      (λ a. let y : Some 3 ≡ None = rw a at z in nothing (sym y))
-
-and_left : (a b : Bool) → (a && b) ≡ true → a ≡ true
-and_left true b e = refl
-and_left false b e = e
-
-and_right : (a b : Bool) → (a && b) ≡ true → b ≡ true
-and_right true b e = e
-and_right false b e = absurd (true≢false (sym e))
+      (λ b. let y : Some 4 ≡ None = rw (a, b) at z in absurd (none-some _ (sym y))))
+      (λ a. let y : Some 3 ≡ None = rw a at z in absurd (none-some _ (sym y)))
 
 or_right : (a b : Bool) → (a || b) ≡ true → b ≡ false → a ≡ true
 or_right true b e f = refl
@@ -69,20 +63,16 @@ or_right false b e f = absurd (true≢false (sym e ∙ f))
 
 only_begin : (k : ℕ) → k < 21 → get_or openers k 0 ≡ 0 → k ≡ 1
 only_begin k h e = eqb-true k 1 (or_right (eqb k 1) (not (eqb (get_or openers k 0) 0)) (T_true _ (at_each (λ i x. eqb i 1 || not (eqb x 0)) openers tt k h)) (rw e refl))
-  where
-    T_true : (b : Bool) → T b → b ≡ true
-    T_true true t = refl
-    T_true false t = absurd t
 
 -- what the rules of order say of a command that keeps them
 module _ (count : ℕ → ℕ) (last : ℕ) (c : Cmd) (o : in_order count last c ≡ true) where
   pub was_opened : opened count last c ≡ true
   unfolding in_order
-  was_opened = and_left (opened count last c) _ (and_right (in_range c) _ o)
+  was_opened = (and_parts (opened count last c) _ (and_parts (in_range c) _ o).1).0
 
   was_fresh : fresh count last c ≡ true
   unfolding in_order
-  was_fresh = and_left (fresh count last c) _ (and_right (opened count last c) _ (and_right (in_range c) _ o))
+  was_fresh = (and_parts (fresh count last c) _ (and_parts (opened count last c) _ (and_parts (in_range c) _ o).1).1).0
 
   -- the first command of a record is its BEGIN
   first_begins : c.op < 21 → ((k : ℕ) → count k ≡ 0) → c.op ≡ begin

@@ -2,11 +2,13 @@ use Rattle.std.proofs.Common.{Some, ap, ◌∙◌, refl}
 use Rattle.rows.specs.Checked.{records_in}
 use Rattle.sites.proofs.Laws.{site_is}
 use Rattle.tsconfig.specs.Claims.{claims}
-use Rattle.owner.proofs.Walks.{all_at, search_end, search_found, search_on}
+use Rattle.rows.specs.Rows.{Row}
+use Rattle.verdicts.proofs.Accepted.{all_at}
+use Rattle.owner.proofs.Walks.{search_end, search_found, search_on}
 use Rattle.owner.proofs.first_claimer.Goals as goal
 
 pub new-requires : goal.new-requires
-new-requires c = all_at c.args.refs.now _ c.requires _ c.loop-row-test.true
+new-requires c = all_at (Row (records_in c.args.book.now)) c.args.refs.now _ c.requires _ c.loop-row-test.true
 
 pub returns-then-is_claimed : goal.returns-then-is_claimed
 returns-then-is_claimed c =

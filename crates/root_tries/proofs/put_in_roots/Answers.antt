@@ -1,11 +1,11 @@
 use Rattle.std.proofs.Common.{length, map, ap, arith}
-use Rattle.emit.proofs.Outputs.{left_step, left_end}
+use Rattle.emit.proofs.Outputs.{left_by, left_step, left_end}
 use Rattle.record.specs.Lists.{strings_left}
 use Rattle.tsconfig.specs.Laid.{laid}
 use Rattle.targets.proofs.Lays.{laid_cons}
 use Rattle.roots.specs.Roots.{built_place}
 use Rattle.roots.proofs.Roots.{place_length}
-use Rattle.root_tries.proofs.Others.{others_end, others_same, others_next, others_few, others_near, left_by}
+use Rattle.root_tries.proofs.Others.{others_end, others_same, others_next, others_few, others_near}
 use Rattle.root_tries.proofs.put_in_roots.Goals as goal
 
 pub put_read-requires-clause-base : goal.put_read-requires-clause-base

@@ -3,7 +3,8 @@ use lib.ListN.{length-map}
 use Rattle.emit.proofs.Outputs.{left_room, left_step, left_end}
 use Rattle.record.specs.Lists.{targets_left}
 use Rattle.targets.specs.Targets.{target_as}
-use Rattle.targets.proofs.Aims.{targets_short, targets_room, laid_next, laid_end}
+use Rattle.record.proofs.Good.{all_good, targets_short}
+use Rattle.targets.proofs.Aims.{targets_room, laid_next, laid_end}
 use Rattle.targets.proofs.put_targets.Goals as goal
 
 pub put_target-requires-clause-room : goal.put_target-requires-clause-room
@@ -11,7 +12,7 @@ put_target-requires-clause-room c =
     let a = c.args in
     let f = target_as a.dir.now a.base.now (option_copied a.part) in
     let r = a.targets.record in
-    left_room _ _ _ _ c.loop-t.invariant.left _ _ (laid_next f _ _ _ c.in-Some.ensures.steps.first) (targets_room a.dir.now a.base.now _ c.requires.short _ _ (targets_short r.text.now _ r.good) c.requires.room)
+    left_room _ _ _ _ c.loop-t.invariant.left _ _ (laid_next f _ _ _ c.in-Some.ensures.steps.first) (targets_room a.dir.now a.base.now _ c.requires.short _ _ (targets_short r.text.now _ (all_good r.text.now _ r.good)) c.requires.room)
 
 pub loop-t-preserved : goal.loop-t-preserved
 loop-t-preserved c =

@@ -1,6 +1,7 @@
 -- A reference that loads is the flat config of its own line, and leaves the tables sound.
 -- Assumes nothing.
 use mathlib.Core.Path.{◌≡◌, refl, sym, ap, ◌∙◌}
+use Rattle.std.proofs.lemmas.Bool.{or_right}
 use mathlib.Core.List.{[], map, reverse, Memᴰ}
 use mathlib.Core.Bool.{Bool, true, false, ◌||◌, cond, false≢true}
 use Rattle.std.specs.Prelude.{Some, None}
@@ -15,7 +16,7 @@ use Rattle.tsconfig_resolver.specs.References.{refer}
 use Rattle.tsconfig.proofs.Flat.{flat_one}
 use Rattle.tsconfig_resolver.proofs.Tally.{tally_le, tally_add}
 use Rattle.tsconfig_resolver.proofs.Line.{rest_step}
-use Rattle.tsconfig_resolver.proofs.Load.{has, Sound, held, lines_mem, or_right, unless_given, walk_step, load_step}
+use Rattle.tsconfig_resolver.proofs.Load.{has, Sound, held, lines_mem, unless_given, walk_step, load_step}
 
 module _ {Val : Field → Type 0} {B : Type 0} (b : Configs Val B) (inside : (c p : ℕ) → Memᴰ p (parents b c) → p < b.size) where
   -- a record whose parents are in the table: its line unrolls
@@ -43,7 +44,7 @@ module _ {Val : Field → Type 0} {B : Type 0} (b : Configs Val B) (inside : (c 
       (b.own p) s (sym (flat_one (b.own p))) h (λ i m. absurd (false≢true m)) r q₂
       in
       let in_table : (i : ℕ) → Memᴰ i (parents b p) → has (r.state.table i) ≡ true =
-      λ i k. st.domain i ∙ or_right (has (s.table i)) (lines_mem (above b) i (parents b p) k)
+      λ i k. st.domain i ∙ or_right (has (s.table i)) _ (lines_mem (above b) i (parents b p) k)
       in (
         xs ∙ ap (λ l. flat (b.own p) (map b.own l)) (sym (unrolls p r.state lt st.sound in_table (has (r.state.table p)) refl)),
         st.sound,
