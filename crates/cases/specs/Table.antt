@@ -37,7 +37,7 @@ pub data Case : Type 0 where
   -- the lines that the program prints for the questions about a book
   prints : List Line → List Question → Case
 
--- What the program prints: "`built`: record, merges", and the lines below it; "`owner`: found, solution. Otherwise `owner None`";
+-- What the program prints: "`built`: record, merges", and the lines below it; "`owner`: found, solution. Otherwise `owner none`";
 -- `candidates` or `tries`, "the count and the paths"; "`refused`, number and place".
 
 -- a number in decimal, of at most k digits

@@ -60,7 +60,8 @@ fn find_joined<const N: usize>(paths: &PathTable<'_>, dir: &[u8], s: &[u8]) -> O
     paths.locate(normalize_with(dir, s, &mut buffer))
 }
 
-// The record that a path read from a directory means. Where the two are short, what is written to is small.
+// The record that a path read from a directory means. Where the two are short, what is written to is small: a buffer is set to zero first
+// (DECISIONS 6).
 pub fn find_meant(paths: &PathTable<'_>, dir: &[u8], s: &[u8]) -> Option<usize>
     requires { (length dir.now ≤ 512) × (length s.now ≤ 512) }
     ensures { result ≡ locate_of (paths_in paths.now) (normalize_with dir.now s.now) }
@@ -103,6 +104,7 @@ fn read_entries(book: &CheckedBook<'_>, c: usize) -> Entries
 {
     let dir = record_dir(book, c);
     let mut all = [Entry::Empty; 8];
+    // Counted as they are read: how many there are stands beside an array of fixed length.
     let mut count = 0;
     for s in book.record_at(c).strings(EXTENDS) {
         all[count] = read_entry(book, dir, s);

@@ -16,7 +16,7 @@ pub enum Entry {
     Empty,
 }
 
-// The extends entries of a record.
+// The extends entries of a record. No ArrayVec: the crates stand over std alone.
 #[derive(Clone, Copy)]
 pub struct Entries {
     pub all: [Entry; 8],

@@ -11,6 +11,9 @@ use emit::Output;
 use lines::{put_built, put_keys, put_line, put_placed, put_root_rows, put_strings};
 use record::Record;
 
+// The five differ in what writes their lines, and each of these takes other things: handed on as a closure its promise stands in the clauses of the
+// one function and again at each call, which is no plainer.
+
 // Writes files, include or exclude, if it has a supplier: its items, or its name alone where there are none.
 pub fn put_list(out: &mut Output, found: Option<Record>, op: u8, name: &[u8], dir: &[u8])
     requires room { Room out.old.at (list_at name.now dir.now op found) }

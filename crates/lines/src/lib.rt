@@ -72,7 +72,8 @@ fn put_built_within<const N: usize>(
     put_row(out, name, adjust(dir, base, s, &mut buffer));
 }
 
-// Writes a string, as built from the directory or from the base, as a line with the name. Most need a short buffer only.
+// Writes a string, as built from the directory or from the base, as a line with the name. Most need a short buffer only, which is set to zero
+// sooner (DECISIONS 6).
 pub fn put_built(out: &mut Output, name: &[u8], dir: &[u8], base: &[u8], s: &[u8])
     requires room { Room out.old.at (row name.now (adjusted dir.now base.now s.now)) }
     requires dir { length dir.now ≤ 512 }
@@ -106,7 +107,7 @@ fn put_placed_within<const N: usize>(
     put_row(out, name, build_place(dir, own, s, &mut buffer));
 }
 
-// Writes a string, as built from its record's own directory, as a line with the name. Most need a short buffer only.
+// Writes a string, as built from its record's own directory, as a line with the name. Most need a short buffer only, as above.
 pub fn put_placed(out: &mut Output, name: &[u8], dir: &[u8], own: &[u8], s: &[u8])
     requires room { Room out.old.at (row name.now (built_place dir.now own.now s.now)) }
     requires dir { length dir.now ≤ 512 }

@@ -8,16 +8,13 @@ ghost use Rattle.rows.specs.Rows.{config_of};
 ghost use Rattle.rows.specs.Checked.{records_in};
 ghost use Rattle.load.specs.Loads.{on_of, state_of, pending, ParentAs, Tells, LoadPre, WalkPre, BringPre, walks as walks_of};
 
-use book::{Fault, Refusal};
+use book::{Fault, MOST_RECORDS, Refusal};
 use entries::{Entry, Opened, open_record};
 use merge::merge_row;
 use rows::{CheckedBook, ROW};
 
-// The most records that a book has.
-const RECORDS: usize = 64;
-
 // The rows of the records that are loaded.
-pub type Table = [Option<[u8; ROW]>; RECORDS];
+pub type Table = [Option<[u8; ROW]>; MOST_RECORDS];
 
 // What a load gives: the config's row, and how many merges are made then.
 #[derive(Clone, Copy)]
@@ -44,7 +41,7 @@ fn parent_of(entry: Entry, c: usize) -> Result<usize, Refusal>
 pub fn load(
     book: &CheckedBook<'_>,
     table: &mut Table,
-    on: [bool; RECORDS],
+    on: [bool; MOST_RECORDS],
     c: usize,
     m: usize,
 ) -> Result<Loaded, Refusal>
@@ -70,7 +67,7 @@ pub fn load(
 pub fn walk(
     book: &CheckedBook<'_>,
     table: &mut Table,
-    on: [bool; RECORDS],
+    on: [bool; MOST_RECORDS],
     c: usize,
     entries: &[Entry],
     own: [u8; ROW],
@@ -82,6 +79,7 @@ pub fn walk(
     let mut left = entries;
     let mut row = own;
     let mut merges = m;
+    // The list is cut at its end: what is left of it is what the rest of the walk is about.
     while let [rest @ .., entry] = left {
         let v = parent_of(*entry, c)?;
         let far = bring(book, table, on, v, merges)?;
@@ -97,7 +95,7 @@ pub fn walk(
 fn bring(
     book: &CheckedBook<'_>,
     table: &mut Table,
-    on: [bool; RECORDS],
+    on: [bool; MOST_RECORDS],
     v: usize,
     m: usize,
 ) -> Result<Loaded, Refusal>

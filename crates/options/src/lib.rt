@@ -62,11 +62,11 @@ pub fn put_options(out: &mut Output, config: &Config)
     requires { Room out.old.at (options_part (settings_in config.now)) }
     ensures { Puts (options_part (settings_in config.now)) out.old out.new }
 {
-    for id in 0..11u8 {
+    for id in 0..places::FLAG_IDS {
         let found = config.supplier(places::FLAGS + usize::from(id));
         put_option(out, b"flag ", id, flag_value(found, id));
     }
-    for id in 0..7u8 {
+    for id in 0..places::TEXT_IDS {
         let found = config.supplier(places::TEXTS + usize::from(id));
         put_option(out, b"text ", id, text_value(found, id));
     }

@@ -304,7 +304,7 @@ module _ (commands text : Text) where
             (λ t. absurd (none_some _ (sym (given_same (rw t at g)))))
             (λ f. (λ c n. let k : b ≡ c = cc in subst (λ (i : ℕ). (q : Project) × (load_record rs i ≡ given q) × (claims_ownership path (flat_site rs i) q.references ≡ false)) k (p, l, sym ((inherits rs b p h l).claimed_with path) ∙ f), rw f at g))
 
--- No record's number is 65,535, which stands for None
+-- no record's number is 65,535, which stands for none
 
 -- how many commands are decoded
 decoded_count : Decoded → ℕ

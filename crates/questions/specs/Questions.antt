@@ -35,7 +35,7 @@ tries_of rs room path dir s = asked (asked_path path && (asked_path dir && strin
   p ← load_path rs path
   listed room (tries p.site.config dir s))
 
--- "answers 65,535 twice for None"
+-- "answers 65,535 twice for none"
 unfoldable pub owner_reply : Option Owner → Outcome
 owner_reply None = reply 65535 65535 []
 owner_reply (Some o) = reply o.found o.solved []

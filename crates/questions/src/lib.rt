@@ -50,7 +50,7 @@ fn is_asked(path: &[u8], directory: Option<&[u8]>, specifier: &[u8]) -> bool
     is_asked_path(path) && from_there && is_string(specifier)
 }
 
-// Loads the record that the path means, where the question may be asked.
+// Loads the record that the path means, where the question may be asked: `ok` is what was told of the question, which is refused after the book.
 fn load_asked(book: &CheckedBook<'_>, ok: bool, path: &[u8]) -> Result<Project, Refusal>
     ensures { LoadsAs (records_in book.now) (asked_load ok (records_in book.now) path.now) result }
 {
@@ -68,6 +68,8 @@ fn load_asked(book: &CheckedBook<'_>, ok: bool, path: &[u8]) -> Result<Project, 
     };
     load_record(book, c)
 }
+
+// The index and the buffers are of fixed length, here and below: nothing takes memory from a heap.
 
 // B: the config that a path means, merged with what it extends and built, as lines; its record and the merges made.
 pub fn build(commands: &[u8], text: &[u8], path: &[u8], out: &mut [u8]) -> Result<Given, Refusal>

@@ -18,7 +18,8 @@ use text::{SLASH, from, starts_with};
 // How far from the end of a path the byte before `.json` stands: most paths of records end so.
 const BEFORE_JSON: usize = 6;
 
-// A path that is not put together: a front and a tail, with a slash between them where they stand apart.
+// A path that is not put together: a front and a tail, with a slash between them where they stand apart. Whether they do is a datum: the front may
+// end with a slash itself.
 #[derive(Clone, Copy)]
 struct Joined<'a> {
     front: &'a [u8],
@@ -163,6 +164,7 @@ impl<'a> PathTable<'a> {
         ensures { result ≡ some_of (prefix_of (head_of p.now)) (paths_in self.now) }
     {
         let k = p.front.len().saturating_sub(1);
+        // No walk over the rows: `next_joined` passes over those that two bytes rule out.
         let mut i = self.next_joined(0, p, k);
         while i < self.rows.len() {
             if p.leads(self.path(i)) {

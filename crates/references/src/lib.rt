@@ -9,17 +9,15 @@ ghost use Rattle.rows.specs.Checked.{records_in};
 ghost use Rattle.load.specs.Loads.{state_of, pending, Tells};
 ghost use Rattle.references.specs.References.{Refers, Lists, WholeAs, ReferPre, nobody};
 
-use book::{Fault, REFERENCE, Refusal};
+use book::{Fault, MOST_RECORDS, REFERENCE, Refusal};
 use entries::{Opened, find_meant, open_record, record_dir};
 use load::{Loaded, Table, load, walk};
 use rows::{ABSENT, CheckedBook, ROW};
 
-// How many records a book has and how many references a record has, at most.
-const RECORDS: usize = 64;
-
 const REFERENCES: usize = 16;
 
-// A config that is loaded with its references: its row, theirs and how many they are, and the config's merges.
+// A config that is loaded with its references: its row, theirs and how many they are, and the config's merges. No ArrayVec: the crates stand over
+// std alone.
 #[derive(Clone, Copy)]
 pub struct Project {
     pub row: [u8; ROW],
@@ -47,7 +45,15 @@ fn refer(
         });
     }
     let Opened { entries, row } = open_record(book, r)?;
-    walk(book, table, [false; RECORDS], r, entries.as_slice(), row, m)
+    walk(
+        book,
+        table,
+        [false; MOST_RECORDS],
+        r,
+        entries.as_slice(),
+        row,
+        m,
+    )
 }
 
 // Loads the reference s of the record c, after m merges.
@@ -82,6 +88,7 @@ fn load_references(
     requires { ReferPre book.now table.old c m × (m + 8 * pending nobody table.old ≤ 512) }
     ensures { Lists (records_in book.now) (references_of (records_in book.now) c (record_at (records_in book.now) c).references (state_of (records_in book.now) table.old m)) refs.new result }
 {
+    // Counted as they are loaded: how many there are stands beside rows of fixed length.
     let mut count = 0;
     let mut made = m;
     for s in book.record_at(c).strings(REFERENCE) {
@@ -98,8 +105,8 @@ pub fn load_record(book: &CheckedBook<'_>, c: usize) -> Result<Project, Refusal>
     requires { c < length book.now.paths.rows.now }
     ensures { WholeAs (records_in book.now) c result }
 {
-    let mut table = [None; RECORDS];
-    let Loaded { row, merges } = load(book, &mut table, [false; RECORDS], c, 0)?;
+    let mut table = [None; MOST_RECORDS];
+    let Loaded { row, merges } = load(book, &mut table, [false; MOST_RECORDS], c, 0)?;
     let mut references = [[ABSENT; ROW]; REFERENCES];
     let count = load_references(book, &mut table, c, &mut references, merges)?;
     Ok(Project {

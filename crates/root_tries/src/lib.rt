@@ -33,6 +33,7 @@ fn put_in_roots(
     requires near { out.old.at ≤ 100000 }
     ensures { Lists (in_roots root.now (Some rest.now) (roots_of record.now.commands.now record.now.text.now dir.now own.now record.now.at)) out.old out.new result }
 {
+    // Counted as they are written: some root dirs are passed over.
     let mut count = 0;
     for s in record.strings(ROOT_DIR) {
         let mut buffer = [0u8; 1600];

@@ -195,7 +195,7 @@ module _ (commands text : Text) (rows : List IndexRow) (b : Records commands tex
     unfolding config_of
     named_says = value_map (supplier row f) ((record_at (records_of commands text) (supplier row f)).says f)
 
-    -- there is None
+    -- there is none
     pub field_none : None ≡ begin_at rows row (slot f) → option_map (λ v. v.value) ((config_of (records_of commands text) row).named f) ≡ None
     field_none e =
         let z : supplier row f ≡ absent = found_none rows row (slot f) e in

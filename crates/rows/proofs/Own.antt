@@ -1,6 +1,6 @@
 -- The row of a record by itself. Assumes nothing.
 use mathlib.Core.Path.{◌≡◌, refl, sym, ap, ◌∙◌}
-use mathlib.Core.List.{List, [], ◌∷◌}
+use mathlib.Core.List.{List, [], ◌∷◌, map}
 use mathlib.Core.Bool.{Bool, cond}
 use Prim.Native.Nat.{ℕ, ◌+◌, ◌-◌, ◌≤◌, ◌<◌}
 use native.Mathlib.Omega.{arith}
@@ -13,59 +13,32 @@ use Rattle.text.specs.Bytes.{Text}
 use Rattle.text.specs.Text.{some_of}
 use Rattle.text.proofs.Picks.{by_test}
 use Rattle.book.specs.declared.Cmd.{Cmd}
-use Rattle.book.specs.declared.Stop.{Stop}
-use Rattle.std.specs.Prelude.{Result, Ok, Err}
-use Rattle.book.specs.declared.Stop.TheVariants.{Broken, End}
-use Rattle.book.specs.Command.{decode, end}
-use Rattle.book.specs.Index.{up_to_end, record_at}
-use Rattle.book.specs.Steps.{step_at}
-use Rattle.book.proofs.Steps.{decoded, decode_step, Moved, step_moves}
+use Rattle.book.specs.Command.{decode}
+use Rattle.book.specs.Index.{record_at}
+use Rattle.items.specs.Runs.{commands_left}
+use Rattle.items.specs.declared.Commands.{Commands}
+use Rattle.items.proofs.Reading.{paired_all}
 use Rattle.rows.specs.Rows.{absent}
 use Rattle.rows.specs.Own.{slot_of, names, marked, OwnRow}
 
--- The places of the commands' fields, one after the other
+-- The places of the fields of the commands that are left, one after the other
 
-module _ (c : ℕ) (s : Text) (at : ℕ) (r : Result (Cmd × ℕ) Stop) (told : r ≡ step_at s at) (row : List ℕ) where
-  record_step : record_at s at ≡ up_to_end (decoded at at s r)
-  unfolding record_at
-  record_step = ap up_to_end (decode_step s at at ∙ ap (decoded at at s) (sym told))
+pub marks_start : (c : ℕ) (s : Text) (at : ℕ) (it : Commands) → it.commands.now ≡ s → it.at ≡ at → (row : List ℕ) → marked c (map (λ p. p.0) (commands_left it)) row ≡ marked c (record_at s at) row
+unfolding record_at
+marks_start c s at it e f row = rw (e, f) (ap (λ (l : List Cmd). marked c l row) (paired_all (decode 0 at (drop at s))))
 
-  pub marks_over : {w : Stop} → r ≡ Err w → row ≡ marked c (record_at s at) row
-  unfolding marked decoded up_to_end
-  marks_over {w} e = over w e
-    where
-      over : (w : Stop) → r ≡ Err w → row ≡ marked c (record_at s at) row
-      over End e = sym (ap (λ (l : List Cmd). marked c l row) (record_step ∙ ap (λ (x : Result (Cmd × ℕ) Stop). up_to_end (decoded at at s x)) e))
-      over Broken e = sym (ap (λ (l : List Cmd). marked c l row) (record_step ∙ ap (λ (x : Result (Cmd × ℕ) Stop). up_to_end (decoded at at s x)) e))
+module _ (c : ℕ) (left : List (Cmd × ℕ)) (row : List ℕ) where
+  pub marks_over : left ≡ [] → row ≡ marked c (map (λ p. p.0) left) row
+  unfolding marked
+  marks_over e = rw e refl
 
-  module _ {x : Cmd} {n : ℕ} (e : r ≡ Ok (x, n)) where
-    moves : Moved s at x n
-    moves = step_moves s at x n (sym e ∙ told)
-
-    record_command : record_at s at ≡ cond (eqb x.op end) [] (x ∷ record_at s n)
-    unfolding decoded up_to_end record_at
-    record_command =
-        let z : at + (n - at) ≡ n = omega (arith, moves.forth) in
-        record_step ∙ ap (λ (y : Result (Cmd × ℕ) Stop). up_to_end (decoded at at s y)) e
-        ∙ ap (λ (k : ℕ). cond (eqb x.op end) [] (x ∷ up_to_end (decode 0 k (drop n s)))) z
-
-    record_stop : x.op ≡ end → record_at s at ≡ []
-    record_stop t = record_command ∙ ap (λ (b : Bool). cond b [] (x ∷ record_at s n)) (eq-eqb x.op end t)
-
-    record_on : (x.op ≡ end → ⊥) → record_at s at ≡ x ∷ record_at s n
-    record_on t = record_command ∙ ap (λ (b : Bool). cond b [] (x ∷ record_at s n)) (ne_eqb x.op end t)
-
-    pub marks_stop : x.op ≡ end → row ≡ marked c (record_at s at) row
+  module _ (p : Cmd × ℕ) (rest : List (Cmd × ℕ)) (e : left ≡ p ∷ rest) (k : ℕ) (w : k ≡ slot_of p.0) where
+    pub marks_on : marked c (map (λ p. p.0) rest) (set row k c) ≡ marked c (map (λ p. p.0) left) row
     unfolding marked
-    marks_stop t = sym (ap (λ (l : List Cmd). marked c l row) (record_stop t))
+    marks_on = rw (e, w) refl
 
-    module _ (t : x.op ≡ end → ⊥) (k : ℕ) (w : k ≡ slot_of x) where
-      pub marks_on : marked c (record_at s n) (set row k c) ≡ marked c (record_at s at) row
-      unfolding marked
-      marks_on = sym (ap (λ (l : List Cmd). marked c l row) (record_on t) ∙ ap (λ (j : ℕ). marked c (record_at s n) (set row j c)) (sym w))
-
-      pub marks_past : length row ≤ k → marked c (record_at s n) row ≡ marked c (record_at s at) row
-      marks_past h = ap (marked c (record_at s n)) (sym (set_out row k c h)) ∙ marks_on
+    pub marks_past : length row ≤ k → marked c (map (λ p. p.0) rest) row ≡ marked c (map (λ p. p.0) left) row
+    marks_past h = ap (marked c (map (λ p. p.0) rest)) (sym (set_out row k c h)) ∙ marks_on
 
 -- What stands at a place in the end
 

@@ -16,7 +16,7 @@ use Rattle.tsconfig.specs.Config.{Field}
 use Rattle.tsconfig.specs.Parsed.{Value, Parsed, parsed, said}
 use Rattle.tsconfig_resolver.specs.Find.{record_at, paths_of}
 
--- the records as parsed; None where the book is refused
+-- the records as parsed; none where the book is refused
 abbrev pub parsed_of : Text → Answer (List (List Cmd)) → List Parsed
 parsed_of text (refused n p) = []
 parsed_of text (given rs) = map (parsed text) rs

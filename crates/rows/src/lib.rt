@@ -9,9 +9,10 @@ ghost use Rattle.rows.specs.Sets.{Records-prop};
 ghost use Rattle.rows.specs.Own.{slot_of, marked, OwnRow};
 
 use book::{
-    BASE_URL, Cmd, DECLARATION_DIR, END, EXCLUDE, FILES, FLAG, INCLUDE, IndexRow, OUT_DIR, PATHS,
+    BASE_URL, Cmd, DECLARATION_DIR, EXCLUDE, FILES, FLAG, INCLUDE, IndexRow, OUT_DIR, PATHS,
     ROOT_DIRS, TEXT_OPTION, command_at,
 };
+use items::Commands;
 use record::Record;
 use records::PathTable;
 
@@ -47,8 +48,8 @@ fn slot_of(c: Cmd) -> Option<usize>
         ROOT_DIRS => Some(places::ROOT_DIRS),
         OUT_DIR => Some(places::OUT_DIR),
         DECLARATION_DIR => Some(places::DECLARATION_DIR),
-        FLAG if c.id < 11 => Some(places::FLAGS + usize::from(c.id)),
-        TEXT_OPTION if c.id < 7 => Some(places::TEXTS + usize::from(c.id)),
+        FLAG if c.id < places::FLAG_IDS => Some(places::FLAGS + usize::from(c.id)),
+        TEXT_OPTION if c.id < places::TEXT_IDS => Some(places::TEXTS + usize::from(c.id)),
         _ => None,
     }
 }
@@ -57,15 +58,10 @@ fn slot_of(c: Cmd) -> Option<usize>
 fn mark_fields(commands: &[u8], rec: usize, c: u8, row: &mut [u8; ROW])
     ensures { row.new ≡ marked c (record_at commands.now rec) row.old }
 {
-    let mut at = rec;
-    while let Ok((x, next)) = command_at(commands, at) {
-        if x.op == END {
-            return;
-        }
+    for (x, _) in (Commands { commands, at: rec }) {
         if let Some(k) = slot_of(x) {
             row[k] = c;
         }
-        at = next;
     }
 }
 

@@ -1,4 +1,5 @@
-// The places of a row: at each stands the record that supplies the field.
+// The places of a row: at each stands the record that supplies the field. They are indices, and flags and text options stand by their ids: an enum
+// would be turned into this number each time.
 
 pub const FILES: usize = 0;
 
@@ -24,6 +25,11 @@ pub const ALLOW_JS: usize = FLAGS + 8;
 
 // Where the text options begin, by their ids.
 pub const TEXTS: usize = 19;
+
+// How many ids flags and text options have.
+pub const FLAG_IDS: u8 = 11;
+
+pub const TEXT_IDS: u8 = 7;
 
 // The record that the base is of.
 pub const BASE: usize = 26;

@@ -80,7 +80,8 @@ fn put_target_within<const N: usize>(
     }
 }
 
-// Writes a target as it is built, its star filled where there is a part for it. Most need a short buffer only.
+// Writes a target as it is built, its star filled where there is a part for it. Most need a short buffer only, which is set to zero sooner
+// (DECISIONS 6).
 fn put_target(out: &mut Output, dir: &[u8], base: &[u8], t: &[u8], part: Option<&[u8]>)
     requires room { Room out.old.at (laid (target_as dir.now base.now (option_copied part) t.now ∷ [])) }
     requires short { Short dir.now base.now (option_copied part) }
@@ -106,6 +107,7 @@ pub fn put_targets(
     requires room { Fits (targets_left targets) out.old.at }
     ensures { Lists (map (target_as dir.now base.now (option_copied part.entry)) (targets_left targets.entry)) out.old out.new result }
 {
+    // Counted as they are written: a fold over them is no shorter, and its step would have the promise of the loop.
     let mut count = 0;
     for t in targets {
         put_target(out, dir, base, t, part);
@@ -127,7 +129,7 @@ fn put_read_within<const N: usize>(out: &mut Output, base: &[u8], spec: &[u8])
     put_path(out, normalize_with(base, spec, &mut buffer));
 }
 
-// Writes the specifier as it is read from the base. Most need a short buffer only.
+// Writes the specifier as it is read from the base. Most need a short buffer only, which is set to zero sooner (DECISIONS 6).
 pub fn put_read(out: &mut Output, base: &[u8], spec: &[u8])
     requires base { length base.now ≤ 1600 }
     requires spec { length spec.now ≤ 1100 }

@@ -77,7 +77,7 @@ is_empty_list None = false
 is_empty_list (Some []) = true
 is_empty_list (Some (x ∷ xs)) = false
 
--- there are None
+-- there are none
 unfoldable pub no_references : List Site → Bool
 no_references [] = true
 no_references (r ∷ rs) = false

@@ -41,7 +41,7 @@ filled_at (Some i) part t = take i t ++ (part ++ drop (suc i) t)
 unfoldable pub filled : Text → Text → Text
 filled part t = filled_at (star_of t) part t
 
--- the targets of the key chosen among the wildcards, each filled; a key without targets gives None, and no other key is looked at
+-- the targets of the key chosen among the wildcards, each filled; a key without targets gives none, and no other key is looked at
 unfoldable pub from_best : Text → Option Key → List Text
 from_best s None = []
 from_best s (Some k) = map (filled (unwrap_or (key_part k.key s) [])) k.targets
@@ -100,7 +100,7 @@ unfoldable pub root_tries : Text → Option (List Text) → List Text
 root_tries p None = []
 root_tries p (Some rs) = from_root p rs (root_above p None rs)
 
--- "Tries (01's term): the paths that `resolve_tsconfig_compiler_options` would test from a given directory, in order, as if that directory alone existed; None inside
+-- "Tries (01's term): the paths that `resolve_tsconfig_compiler_options` would test from a given directory, in order, as if that directory alone existed; none inside
 -- `node_modules`."
 unfoldable pub tries : Settings → Text → Text → List Text
 tries c dir s =

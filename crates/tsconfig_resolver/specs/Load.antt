@@ -78,7 +78,7 @@ module _ {Val : Field → Type 0} {B : Type 0} (b : Configs Val B) where
   abbrev pub free : (ℕ → Bool) → ℕ
   free chain = tally b.size (λ i. 1) (λ i. not (chain i))
 
-  -- The record c, met under the chain, through k more records: where None is left, all are on the chain, c too.
+  -- The record c, met under the chain, through k more records: where none is left, all are on the chain, c too.
   unfoldable pub load_by : ℕ → (ℕ → Bool) → ℕ → State Val B → Answer (Loaded Val B)
   load_by zero chain c s = refused 9 c
   load_by (suc k) chain c s = unless (refusal chain c) c (fresh (load_by k (add c chain)) c) s
