@@ -446,7 +446,7 @@ HEAD = """# What the design pass changed, old and new
 
 `tools/changed.py` writes this page and `tools/changed.py --check` says whether it is still what the sources are. Old is commit %s, with which docs/DESIGN-PASS.md begins; new is this checkout. The crates stand in the order of crates.txt, without those of which nothing is to be told.
 
-- Functions: public ones whose signature or clauses differ, and others whose clauses do. Types with their ghost fields, impls of traits with their ghost items, public constants. The definitions of specs/.
+- Functions: public ones whose signature or clauses differ, and others whose clauses do; of those that are as they were, the public ones are counted. Types with their ghost fields, impls of traits with their ghost items, public constants. The definitions of specs/.
 - Theorems, by their statements: those of specs/, the public ones of %s in `questions/proofs`, and lemmas that README.md or a page of docs/ names in backticks, at the old commit or at that of the port.
 - By text. No difference is one of layout, of comments, of the names of clauses, or of what is unfolded by name. A definition or theorem that differs only in words of std's Option and of what stood in its place (%s) is
   spelt anew; those stand at the end. Something is found again by its crate, type and name, else by its name and its text elsewhere.
