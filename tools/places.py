@@ -34,7 +34,7 @@ LINES = [
     (2, 'functions that have the same once more over a buffer of another length (`.._in`)', r'^\s*(pub )?fn \w+_in\('),
     (2, 'functions that stand in several crates: wide, byte_at, word_at, more, same', r'^\s*(pub )?fn (wide|byte_at|word_at|long_at|more|same|write_number|put_flags|put_texts|put_flag|put_text_option|is_some_matched|is_named_file)\('),
     (3, 'loops', r'^\s*(while|loop)\b'),
-    (3, 'loops that count an index or a place by hand', r'^\s*(i|j|k|id|at|to|n|x|y|left) (\+|-)= '),
+    (3, 'loops that count an index or a place by hand', r'^\s*(i|j|k|id|at|to|n|x|y|left|count) (\+|-)= '),
     (4, 'fields given by a name of their own (`op: op`)', r'^\s*(\w+): \1,'),
     (4, 'variants told apart by an arm each', r'^\s*\w+::\w+(\(_(, _)*\))? => (true|false)'),
     (4, 'a byte made an index by an own function', r'\bwide\('),
