@@ -143,7 +143,7 @@ fn answer_lines(rt: &(impl Print + Eprint), book: &Book, input: &[u8], out: &mut
 }
 
 // Answers the lines that have their end in an input, after the end of the line that is passed over, if one is. Gives how many bytes at its end wait
-// for their line's end; none where that line is passed over.
+// for their line's end; none where that line is passed over. Whether one is passed over is a datum, kept from one read to the next.
 fn answer_input(
     rt: &(impl Print + Eprint),
     book: &Book,
@@ -259,7 +259,7 @@ pub fn load_book<'a>(
 }
 
 // Answers the lines of standard input about the book of the current folder. A book that is too large is read one byte further than is allowed,
-// so that it is refused.
+// so that it is refused. It has no `ensures` (DECISIONS 52).
 pub fn run(rt: &(impl Files + Input + Print + Eprint)) {
     let mut commands = [0u8; 32769];
     let mut text = [0u8; 65536];

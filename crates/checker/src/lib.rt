@@ -25,6 +25,7 @@ fn is_known_tame(commands: usize, text: &[u8]) -> bool
 }
 
 // How many records a book has, or its first refusal. Of an accepted book a row of the index says each record; rows after the last record's are left open.
+// Commands and text stand apart: no type has a book before it is checked.
 pub fn check_book(
     commands: &[u8],
     text: &[u8],

@@ -17,9 +17,6 @@ use record::Record;
 use rows::places;
 use sites::Config;
 
-// The flag id of allowJs.
-const ALLOW_JS_ID: u8 = 8;
-
 // A config that is asked whether it claims a path, with whether it allows JavaScript.
 #[derive(Clone, Copy)]
 struct Claimant<'a> {
@@ -38,7 +35,8 @@ impl Claimant<'_> {
             .any(|s| is_item_matched(self.js, path, self.config.dir, s))
     }
 
-    // Whether the path is one of the config's files.
+    // Whether the path is one of the config's files. A `match` here and below, and no method of Option: what an arm calls is told of the record, which a
+    // closure would have to say once more.
     fn is_in_files(&self, path: &[u8]) -> bool
         ensures { result ≡ named_file path.now ((site_in self.now.config.now).config.named files) }
     {
@@ -86,7 +84,7 @@ fn allow_js(config: &Config) -> bool
     ensures { result ≡ allow_js (site_in config.now).config }
 {
     match config.supplier(places::ALLOW_JS) {
-        Some(supplier) => supplier.flag(ALLOW_JS_ID).unwrap_or(false),
+        Some(supplier) => supplier.flag(places::ALLOW_JS_ID).unwrap_or(false),
         None => false,
     }
 }

@@ -5,7 +5,7 @@
 
 ghost use Rattle.std.specs.Prelude.{◌<◌, ◌≤◌};
 
-use book::IndexRow;
+use book::{IndexRow, MOST_RECORDS};
 use checker::check_book;
 use lists::{Tally, byte_at, long_at, triple_at, word_at};
 use streams::{fail, read_file, say, say_number};
@@ -79,14 +79,15 @@ fn index_sum(rows: &[IndexRow]) -> usize {
     })
 }
 
+// What the check says of commands and text, which are made apart.
 fn judge(commands: &[u8], text: &[u8]) -> Verdict {
-    let mut index = [IndexRow::NONE; 64];
+    let mut index = [IndexRow::NONE; MOST_RECORDS];
     match check_book(commands, text, &mut index) {
         Ok(count) => Verdict {
             number: 0,
             place: 0,
             count,
-            index: index_sum(&index[..count.min(64)]),
+            index: index_sum(&index[..count.min(MOST_RECORDS)]),
         },
         Err(refusal) => Verdict {
             number: refusal.fault.number() as usize,
@@ -174,7 +175,20 @@ fn is_judged(commands: &[u8], text: &[u8], body: &[u8]) -> bool {
     judge(commands, upto(text, triple_at(body, 3))) == listed(body)
 }
 
-// One entry, after those before it, if there are any. At a name what came of the group before is written, then the name, and a new tally begins.
+// A group begins: what came of the group before is written, if there is one, then the name.
+fn begin_group(rt: &(impl Print + Eprint), earlier: Option<Progress>, name: &[u8]) -> Progress {
+    if let Some(group) = earlier {
+        write_progress(rt, group);
+    }
+    say(rt, name);
+    Progress {
+        tally: Tally::new(),
+        books: 0,
+        ..earlier.unwrap_or_default()
+    }
+}
+
+// One entry, after those before it, if there are any.
 fn turn(
     rt: &(impl Print + Eprint),
     earlier: Option<Progress>,
@@ -188,17 +202,7 @@ fn turn(
         return before;
     };
     match kind {
-        Kind::Group => {
-            if let Some(group) = earlier {
-                write_progress(rt, group);
-            }
-            say(rt, body);
-            Progress {
-                tally: Tally::new(),
-                books: 0,
-                ..before
-            }
-        }
+        Kind::Group => begin_group(rt, earlier, body),
         Kind::Book => Progress {
             commands: 0,
             text: 0,

@@ -18,10 +18,7 @@ use text::{DOT, SLASH};
 pub fn wants_slash(s: &[u8]) -> bool
     ensures { joint s.now ≡ slash_if result }
 {
-    match s {
-        [] | [.., SLASH] => false,
-        _ => true,
-    }
+    !matches!(s, [] | [.., SLASH])
 }
 
 // Writes a slash, where it is to stand apart, and then s. A flag says which, since the path is borrowed while it is asked whether it wants a slash.
@@ -88,10 +85,7 @@ fn push_pieces(path: &mut Output, sub: &[u8])
 fn is_plain_name(piece: &[u8]) -> bool
     ensures { result ≡ plain_name piece.now }
 {
-    match piece {
-        [] | [DOT, ..] => false,
-        _ => true,
-    }
+    !matches!(piece, [] | [DOT, ..])
 }
 
 // Whether each piece of s is told at once to be a name. (A name that begins with a dot is left to the way piece by piece.)

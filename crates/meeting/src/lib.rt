@@ -132,7 +132,7 @@ fn note_slashes(lengths: &[u8; 513], slashes: &mut [u8; 513], s: &[u8]) -> bool
 }
 
 // What is noted of the paths before: the digest and the length of each, and the places of its slashes. The check does not use it yet, and looks at each path before
-// (DECISIONS 58).
+// (DECISIONS 58). A byte 0 or 1 for each place: what is noted is gathered by a loop that never leaves early (DECISIONS 9).
 #[derive(Drop)]
 pub struct Notes {
     pub digests: [u8; 256],

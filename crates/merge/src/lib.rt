@@ -7,7 +7,7 @@ ghost use Rattle.rows.specs.Merge.{nearer, base_by, merged_row};
 use rows::{ABSENT, ROW, places};
 
 // How many places of a row are fields'; after these come the place of the base and that of the row's own record.
-const FIELDS: usize = 26;
+const FIELDS: usize = places::BASE;
 
 // The nearer's supplier, if it has one, else the other's.
 #[tactic(auto, unfolding(rows::specs::Merge::nearer))]

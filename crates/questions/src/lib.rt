@@ -1,4 +1,4 @@
-// The questions, on byte slices. `questions_c` has them as C functions.
+// The questions, on byte slices: commands and text are lent apart, as C lends them (`questions_c`), and `open_book` puts them together.
 #![tactic(auto)]
 
 ghost use Rattle.std.specs.Prelude.{◌≡◌, length, option_copied};

@@ -1,4 +1,4 @@
-// The questions, as C functions on numbers and byte slices: each gives the numbers of what `questions` answers.
+// The questions, as C functions: C lends bytes with their length, and takes a struct of numbers. Each gives the numbers of what `questions` answers.
 #![tactic(auto)]
 
 ghost use Rattle.std.specs.Prelude.{◌≡◌, length};

@@ -1,6 +1,8 @@
 // The places of a row: at each stands the record that supplies the field. They are indices, and flags and text options stand by their ids: an enum
 // would be turned into this number each time.
 
+use book::{LAST_FLAG, LAST_TEXT};
+
 pub const FILES: usize = 0;
 
 pub const INCLUDE: usize = 1;
@@ -20,16 +22,18 @@ pub const DECLARATION_DIR: usize = 7;
 // Where the flags begin, by their ids.
 pub const FLAGS: usize = 8;
 
-// allowJs is the flag 8.
-pub const ALLOW_JS: usize = FLAGS + 8;
+// The id of the flag allowJs, and its place.
+pub const ALLOW_JS_ID: u8 = 8;
+
+pub const ALLOW_JS: usize = FLAGS + ALLOW_JS_ID as usize;
 
 // Where the text options begin, by their ids.
 pub const TEXTS: usize = 19;
 
 // How many ids flags and text options have.
-pub const FLAG_IDS: u8 = 11;
+pub const FLAG_IDS: u8 = LAST_FLAG + 1;
 
-pub const TEXT_IDS: u8 = 7;
+pub const TEXT_IDS: u8 = LAST_TEXT + 1;
 
 // The record that the base is of.
 pub const BASE: usize = 26;

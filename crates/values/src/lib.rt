@@ -18,7 +18,7 @@ use names::has_config_dir;
 use record::Record;
 use text::{SLASH, from};
 
-// How many bytes `${configDir}` has.
+// How many bytes `${configDir}` has: dropped where it was seen to lead, and not looked for again.
 const CONFIG_DIR_LEN: usize = 12;
 
 // s without the slashes that it begins with.
