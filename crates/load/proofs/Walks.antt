@@ -3,7 +3,7 @@ use mathlib.Core.Path.{◌≡◌, refl, sym, ap, ap₂, subst, ◌∙◌, fun_ex
 use mathlib.Core.List.{List, [], ◌∷◌, ◌++◌, reverse, reverse-append, map-append}
 use mathlib.Core.Bool.{Bool, true, false, cond, not, ◌||◌, ◌&&◌, and-false}
 use Rattle.std.specs.Prelude.{Option, Some, None, is_some, option_map, Result, Ok, Err}
-use Prim.Native.Nat.{ℕ, suc, ◌+◌, ◌*◌, ◌<◌, ◌≤◌}
+use Prim.Native.Nat.{ℕ, suc, ◌+◌, ◌<◌, ◌≤◌}
 use native.Mathlib.Omega.{arith}
 use native.Mathlib.Numerals.{add-one, one-add}
 use lib.Dec.{eqb}
@@ -21,13 +21,11 @@ use Rattle.tsconfig_resolver.specs.Line as line
 use Rattle.tsconfig_resolver.specs.Line.{tally}
 use Rattle.tsconfig_resolver.specs.Load.{done, recall, add, put, counted, unread, fresh, parent, walk, load}
 use Rattle.tsconfig_resolver.specs.Find.{seen}
-use Rattle.tsconfig_resolver.specs.Project.{Merged, Store}
+use Rattle.tsconfig_resolver.specs.Project.{Merged}
 use Rattle.tsconfig_resolver.proofs.Tally.{tally_ext, tally_add}
 use Rattle.tsconfig_resolver.proofs.Fuel.{load_law, free_cons}
 use Rattle.rows.specs.Rows.{number_of as row_number, config_of, Row}
 use Rattle.rows.specs.Merge.{merged_row}
-use Rattle.rows.specs.Checked.{records_in}
-use Rattle.rows.specs.declared.CheckedBook.{CheckedBook}
 use Rattle.rows.proofs.Configs.{merge_number, merge_config, merge_is_row}
 use Rattle.entries.specs.declared.lists.Entry.{Entry}
 use Rattle.entries.specs.declared.lists.Entry.TheVariants.{Leads}
@@ -36,8 +34,8 @@ use Rattle.entries.specs.Entries.{entry_of, entries_of, Inside}
 use Rattle.entries.specs.Opens.{OpenedAs, RefusedAs}
 use Rattle.entries.proofs.Dirs.{few_records}
 use Rattle.entries.proofs.Going.{all_before, all_after, all_head}
-use Rattle.load.specs.declared.Loaded.{Loaded}
-use Rattle.load.specs.Loads.{on_of, held, state_of, pending, Table, Gives, Went, ToldAs, Tells, ParentAs, walks, LoadPre, WalkPre, BringPre}
+use Rattle.load.specs.declared.Loads.{Loads}
+use Rattle.load.specs.Loads.{on_of, held, state_of, pending, Table, records_of, state, reach, Gives, Went, ToldAs, Tells, ParentAs, walks, LoadPre, WalkPre, BringPre}
 
 -- The chain
 
@@ -114,26 +112,20 @@ state_counted : (rs : List Parsed) (table : List (Option (List ℕ))) (m : ℕ) 
 unfolding state_of
 state_counted rs table m = λ i. record { table = λ k. option_map (config_of rs) (held table k); merges = add-one m i }
 
--- What is told
-
--- of the same answer
-told_same : (rs : List Parsed) (on : List Bool) (c most : ℕ) (table : List (Option (List ℕ))) (a b : Gives) (r : Result Loaded Refusal) → a ≡ b → Tells rs on c most a table r → Tells rs on c most b table r
-told_same rs on c most table a b r e q = subst (λ (x : Gives). Tells rs on c most x table r) e q
-
 -- The record v is brought
 
-module _ (rs : List Parsed) (on : List Bool) (v : ℕ) (table : List (Option (List ℕ))) (m : ℕ) where
-  recalls : (o : Option (List ℕ)) → held table v ≡ o → recall ((state_of rs table m).table v) (load (seen rs) (on_of on) v) (state_of rs table m) ≡ recall (option_map (config_of rs) o) (load (seen rs) (on_of on) v) (state_of rs table m)
+module _ (l : Loads) (on : List Bool) (v : ℕ) where
+  recalls : (o : Option (List ℕ)) → held l.table v ≡ o → recall ((state l).table v) (load (seen (records_of l)) (on_of on) v) (state l) ≡ recall (option_map (config_of (records_of l)) o) (load (seen (records_of l)) (on_of on) v) (state l)
   unfolding state_of
-  recalls o e = ap (λ (o : Option (List ℕ)). recall (option_map (config_of rs) o) (load (seen rs) (on_of on) v) (state_of rs table m)) e
+  recalls o e = ap (λ (o : Option (List ℕ)). recall (option_map (config_of (records_of l)) o) (load (seen (records_of l)) (on_of on) v) (state l)) e
 
-  pub bring_held : (row : List ℕ) → held table v ≡ Some row → Table rs table → Tells rs on v (m + 8 * pending on table) (recall ((state_of rs table m).table v) (load (seen rs) (on_of on) v) (state_of rs table m)) table (Ok (record { row = row; merges = m }))
-  bring_held row e t = record { told = record { answer = recalls (Some row) e; row = t.rows v row e; own = t.own v row e; table = t; few = omega arith } }
+  pub bring_held : (row : List ℕ) → held l.table v ≡ Some row → Table (records_of l) l.table → Tells l on v (reach on l) (recall ((state l).table v) (load (seen (records_of l)) (on_of on) v) (state l)) l (Ok row)
+  bring_held row e t = record { told = record { book = refl; answer = recalls (Some row) e; row = t.rows v row e; own = t.own v row e; table = t; few = omega arith } }
 
   pub bring_loaded :
-      held table v ≡ None → (most : ℕ) (t : List (Option (List ℕ))) (r : Result Loaded Refusal) → Tells rs on v most (load (seen rs) (on_of on) v (state_of rs table m)) t r →
-      Tells rs on v most (recall ((state_of rs table m).table v) (load (seen rs) (on_of on) v) (state_of rs table m)) t r
-  bring_loaded e most t r p = told_same rs on v most t _ _ r (sym (recalls None e)) p
+      held l.table v ≡ None → (most : ℕ) (now : Loads) (r : Result (List ℕ) Refusal) → Tells l on v most (load (seen (records_of l)) (on_of on) v (state l)) now r →
+      Tells l on v most (recall ((state l).table v) (load (seen (records_of l)) (on_of on) v) (state l)) now r
+  bring_loaded e most now r p = subst (λ (a : Gives). Tells l on v most a now r) (sym (recalls None e)) p
 
 -- The walk
 
@@ -148,121 +140,127 @@ last_first es j d h =
     ∙ reverse-append (entries_of (take j es)) (entry_of (get_or es j d) ∷ [])
 
 -- what is left of the entries is walked over as all of them are
-pub record Walking (book : CheckedBook) (on : List Bool) (c : ℕ) (es : List Entry) (x : List ℕ) (t : List (Option (List ℕ))) (m : ℕ) (left : List Entry) (row : List ℕ) (table : List (Option (List ℕ))) (merges : ℕ) : Type 0 where
-  pub same : walks (records_in book) on c es (config_of (records_in book) x) (state_of (records_in book) t m) ≡ walks (records_in book) on c left (config_of (records_in book) row) (state_of (records_in book) table merges)
-  pub pre : WalkPre book table on c left row merges
-  pub few : merges + length left + 8 * pending on table ≤ m + length es + 8 * pending on t
+pub record Walking (was : Loads) (on : List Bool) (c : ℕ) (es : List Entry) (x : List ℕ) (left : List Entry) (row : List ℕ) (now : Loads) : Type 0 where
+  pub book : now.book ≡ was.book
+  pub same : walks (records_of was) on c es (config_of (records_of was) x) (state was) ≡ walks (records_of now) on c left (config_of (records_of now) row) (state now)
+  pub pre : WalkPre now on c left row
+  pub few : length left + reach on now ≤ length es + reach on was
 
-module _ (book : CheckedBook) (on : List Bool) (c : ℕ) (es : List Entry) (x : List ℕ) (t : List (Option (List ℕ))) (m : ℕ) where
-  module _ (left : List Entry) (row : List ℕ) (table : List (Option (List ℕ))) (merges : ℕ) (w : Walking book on c es x t m left row table merges) where
+module _ (was : Loads) (on : List Bool) (c : ℕ) (es : List Entry) (x : List ℕ) where
+  module _ (left : List Entry) (row : List ℕ) (now : Loads) (w : Walking was on c es x left row now) where
     module _ (j : ℕ) (h : length left ≡ suc j) (d e : Entry) (i : e ≡ get_or left j d) where
       -- what the walk does with the parent that it meets
       next : Gives → Gives
-      next z = z >>= λ r. walks (records_in book) on c (take j left) (merge (config_of (records_in book) row) r.config) (counted r.state)
+      next z = z >>= λ r. walks (records_of now) on c (take j left) (merge (config_of (records_of now) row) r.config) (counted r.state)
 
-      meets : walks (records_in book) on c es (config_of (records_in book) x) (state_of (records_in book) t m) ≡ next (parent (load (seen (records_in book)) (on_of on)) c (entry_of e) (state_of (records_in book) table merges))
+      meets : walks (records_of was) on c es (config_of (records_of was) x) (state was) ≡ next (parent (load (seen (records_of now)) (on_of on)) c (entry_of e) (state now))
       unfolding next
       meets =
           w.same
-          ∙ ap (λ (l : List line.Entry). walk (load (seen (records_in book)) (on_of on)) c l (config_of (records_in book) row) (state_of (records_in book) table merges)) (last_first left j d h)
-          ∙ ap (λ (y : Entry). next (parent (load (seen (records_in book)) (on_of on)) c (entry_of y) (state_of (records_in book) table merges))) (sym i)
+          ∙ ap (λ (l : List line.Entry). walk (load (seen (records_of now)) (on_of on)) c l (config_of (records_of now) row) (state now)) (last_first left j d h)
+          ∙ ap (λ (y : Entry). next (parent (load (seen (records_of now)) (on_of on)) c (entry_of y) (state now))) (sym i)
 
-      pub walk_refused : (r : Refusal) → ParentAs c e (Err r) → walks (records_in book) on c es (config_of (records_in book) x) (state_of (records_in book) t m) ≡ refusal r
+      pub walk_refused : (r : Refusal) → ParentAs c e (Err r) → walks (records_of was) on c es (config_of (records_of was) x) (state was) ≡ refusal r
       unfolding next
-      walk_refused r p = meets ∙ ap next (p (load (seen (records_in book)) (on_of on)) (state_of (records_in book) table merges))
+      walk_refused r p = meets ∙ ap next (p (load (seen (records_of now)) (on_of on)) (state now))
 
       module _ (v : ℕ) (l : e ≡ Leads v) where
-        leads_on : walks (records_in book) on c es (config_of (records_in book) x) (state_of (records_in book) t m) ≡ next (recall ((state_of (records_in book) table merges).table v) (load (seen (records_in book)) (on_of on) v) (state_of (records_in book) table merges))
-        leads_on = meets ∙ ap (λ (y : Entry). next (parent (load (seen (records_in book)) (on_of on)) c (entry_of y) (state_of (records_in book) table merges))) l
+        leads_on : walks (records_of was) on c es (config_of (records_of was) x) (state was) ≡ next (recall ((state now).table v) (load (seen (records_of now)) (on_of on) v) (state now))
+        leads_on = meets ∙ ap (λ (y : Entry). next (parent (load (seen (records_of now)) (on_of on)) c (entry_of y) (state now))) l
 
-        pub bring_next : BringPre book table on v merges
+        pub bring_next : BringPre now on v
         bring_next = record {
           table = w.pre.table;
-          inside = (all_head (get_or left j d) [] (all_after (take j left) (get_or left j d ∷ []) (subst (All (Inside (length book.paths.rows.now))) (last_split left j d h) w.pre.entries))).inside v (sym i ∙ l);
+          inside = (all_head (get_or left j d) [] (all_after (take j left) (get_or left j d ∷ []) (subst (All (Inside (length now.book.now.paths.rows.now))) (last_split left j d h) w.pre.entries))).inside v (sym i ∙ l);
           few = omega (arith, w.pre.few);
         }
 
-        module _ (new : List (Option (List ℕ))) (r : Result Loaded Refusal)
-            (q : Tells (records_in book) on v (merges + 8 * pending on table) (recall ((state_of (records_in book) table merges).table v) (load (seen (records_in book)) (on_of on) v) (state_of (records_in book) table merges)) new r) where
-          module _ (far : Loaded) (k : r ≡ Ok far) where
-            pub brought : Went (records_in book) on v (merges + 8 * pending on table) (recall ((state_of (records_in book) table merges).table v) (load (seen (records_in book)) (on_of on) v) (state_of (records_in book) table merges)) new far
-            brought = subst (ToldAs (records_in book) on v (merges + 8 * pending on table) (recall ((state_of (records_in book) table merges).table v) (load (seen (records_in book)) (on_of on) v) (state_of (records_in book) table merges)) new) k q.told
+        module _ (new : Loads) (r : Result (List ℕ) Refusal) (q : Tells now on v (reach on now) (recall ((state now).table v) (load (seen (records_of now)) (on_of on) v) (state now)) new r) where
+          module _ (far : List ℕ) (k : r ≡ Ok far) where
+            pub brought : Went now on v (reach on now) (recall ((state now).table v) (load (seen (records_of now)) (on_of on) v) (state now)) new far
+            brought = subst (ToldAs now on v (reach on now) (recall ((state now).table v) (load (seen (records_of now)) (on_of on) v) (state now)) new) k q.told
 
-            pub walking_on : (y : List ℕ) → y ≡ merged_row row far.row → Walking book on c es x t m (take j left) y new (far.merges + 1)
+            pub walking_on : (y : List ℕ) → y ≡ merged_row row far → Walking was on c es x (take j left) y (record { book = new.book; table = new.table; merges = new.merges + 1 })
             unfolding next
-            walking_on y f = record {
+            walking_on y f = subst (λ b. Walking was on c es x (take j left) y (record { book = b; table = new.table; merges = new.merges + 1 })) (sym brought.book) (record {
+              book = w.book;
               same =
                   leads_on
                   ∙ ap next brought.answer
-                  ∙ ap₂ (walks (records_in book) on c (take j left)) (sym (ap (config_of (records_in book)) f ∙ merge_config (records_in book) book.records.few row far.row w.pre.row brought.row)) (sym (state_counted (records_in book) new far.merges));
+                  ∙ ap₂ (walks (records_of now) on c (take j left)) (sym (ap (config_of (records_of now)) f ∙ merge_config (records_of now) now.book.now.records.few row far w.pre.row brought.row)) (sym (state_counted (records_of now) new.table new.merges));
               pre = record {
                 table = brought.table;
-                entries = all_before (take j left) (get_or left j d ∷ []) (subst (All (Inside (length book.paths.rows.now))) (last_split left j d h) w.pre.entries);
-                row = subst (Row (records_in book)) (sym f) (merge_is_row (records_in book) book.records.few row far.row w.pre.row brought.row);
-                own = ap row_number f ∙ merge_number (records_in book) book.records.few row far.row w.pre.row brought.row ∙ w.pre.own;
+                entries = all_before (take j left) (get_or left j d ∷ []) (subst (All (Inside (length now.book.now.paths.rows.now))) (last_split left j d h) w.pre.entries);
+                row = subst (Row (records_of now)) (sym f) (merge_is_row (records_of now) now.book.now.records.few row far w.pre.row brought.row);
+                own = ap row_number f ∙ merge_number (records_of now) now.book.now.records.few row far w.pre.row brought.row ∙ w.pre.own;
                 few = omega (arith, w.pre.few, brought.few, h, length-take j left);
               };
               few = omega (arith, w.few, brought.few, h, length-take j left);
-            }
+            })
 
 -- The load
 
-module _ (rs : List Parsed) (on : List Bool) (c : ℕ) (inside : c < length rs) where
-  -- the load's law with the test's answer and the entries' put in
-  by_tests : (a : Bool) (o : Option ℕ) → on_of on c ≡ a → unread ((seen rs).entries c) ≡ o → (s : Store) → load (seen rs) (on_of on) c s ≡ unless (cond a (Some 9) o) c (fresh (seen rs) (load (seen rs) (add c (on_of on))) c) s
-  by_tests a o e f s =
-      load_law (seen rs) (on_of on) c s inside
-      ∙ ap₂ (λ (x : Bool) (y : Option ℕ). unless (cond x (Some 9) y) c (fresh (seen rs) (load (seen rs) (add c (on_of on))) c) s) e f
+module _ (was : Loads) (on : List Bool) (c : ℕ) (inside : c < length (records_of was)) where
+  -- the records of the book
+  abbrev rs : List Parsed
+  rs = records_of was
 
-  pub load_on : get_or on c false ≡ true → (s : Store) → load (seen rs) (on_of on) c s ≡ refused 9 c
-  load_on e s = by_tests true (unread ((seen rs).entries c)) e refl s
+  -- the load's law with the test's answer and the entries' put in
+  by_tests : (a : Bool) (o : Option ℕ) → on_of on c ≡ a → unread ((seen rs).entries c) ≡ o → load (seen rs) (on_of on) c (state was) ≡ unless (cond a (Some 9) o) c (fresh (seen rs) (load (seen rs) (add c (on_of on))) c) (state was)
+  by_tests a o e f =
+      load_law (seen rs) (on_of on) c (state was) inside
+      ∙ ap₂ (λ (x : Bool) (y : Option ℕ). unless (cond x (Some 9) y) c (fresh (seen rs) (load (seen rs) (add c (on_of on))) c) (state was)) e f
+
+  pub load_on : get_or on c false ≡ true → load (seen rs) (on_of on) c (state was) ≡ refused 9 c
+  load_on e = by_tests true (unread ((seen rs).entries c)) e refl
 
   module _ (off : get_or on c false ≡ false) where
-    pub load_unread : (r : Refusal) → RefusedAs rs c r → (s : Store) → load (seen rs) (on_of on) c s ≡ refusal r
-    load_unread r p s = by_tests false (Some (number_of r.fault)) off p.why s ∙ ap (refused (number_of r.fault)) (sym p.place)
+    pub load_unread : (r : Refusal) → RefusedAs rs c r → load (seen rs) (on_of on) c (state was) ≡ refusal r
+    load_unread r p = by_tests false (Some (number_of r.fault)) off p.why ∙ ap (refused (number_of r.fault)) (sym p.place)
 
-    module _ (o : Opened) (p : OpenedAs rs c o) (long : length on ≡ 64) (lt : c < 64) (table : List (Option (List ℕ))) (m : ℕ) (es : List Entry) (is : es ≡ take o.entries.count o.entries.all) where
+    module _ (o : Opened) (p : OpenedAs rs c o) (long : length on ≡ 64) (lt : c < 64) (es : List Entry) (is : es ≡ take o.entries.count o.entries.all) where
       few_entries : length es ≤ 8
       few_entries = omega (arith, ap length is, length-take o.entries.count o.entries.all, o.entries.few)
 
-      opens : load (seen rs) (on_of on) c (state_of rs table m) ≡ (walks rs (set on c true) c es (config_of rs o.row) (state_of rs table m) >>= λ v. done v.config (put c v.config v.state))
+      opens : load (seen rs) (on_of on) c (state was) ≡ (walks rs (set on c true) c es (config_of rs o.row) (state was) >>= λ v. done v.config (put c v.config v.state))
       opens =
-          by_tests false None off p.read (state_of rs table m)
+          by_tests false None off p.read
           ∙ ap (λ (z : Gives). z >>= λ v. done v.config (put c v.config v.state))
-          (sym (ap₂ (λ (chain : ℕ → Bool) (l : List line.Entry). walk (load (seen rs) chain) c (reverse l) (config_of rs o.row) (state_of rs table m)) (on_add on c (omega (arith, long, lt))) (ap entries_of is ∙ p.entries.entries)
-          ∙ ap (λ (x : Merged). walk (load (seen rs) (add c (on_of on))) c (reverse ((seen rs).entries c)) x (state_of rs table m)) p.config))
+          (sym (ap₂ (λ (chain : ℕ → Bool) (l : List line.Entry). walk (load (seen rs) chain) c (reverse l) (config_of rs o.row) (state was)) (on_add on c (omega (arith, long, lt))) (ap entries_of is ∙ p.entries.entries)
+          ∙ ap (λ (x : Merged). walk (load (seen rs) (add c (on_of on))) c (reverse ((seen rs).entries c)) x (state was)) p.config))
 
-      module _ (free : held table c ≡ None) (t : List (Option (List ℕ))) (w : Result Loaded Refusal)
-          (q : Tells rs (set on c true) c (m + length es + 8 * pending (set on c true) table) (walks rs (set on c true) c es (config_of rs o.row) (state_of rs table m)) t w) where
-        pub load_refused : (r : Refusal) → w ≡ Err r → load (seen rs) (on_of on) c (state_of rs table m) ≡ refusal r
+      module _ (free : held was.table c ≡ None) (now : Loads) (w : Result (List ℕ) Refusal)
+          (q : Tells was (set on c true) c (length es + reach (set on c true) was) (walks rs (set on c true) c es (config_of rs o.row) (state was)) now w) where
+        pub load_refused : (r : Refusal) → w ≡ Err r → load (seen rs) (on_of on) c (state was) ≡ refusal r
         load_refused r f =
             opens
-            ∙ ap (λ (z : Gives). z >>= λ v. done v.config (put c v.config v.state)) (subst (ToldAs rs (set on c true) c (m + length es + 8 * pending (set on c true) table) (walks rs (set on c true) c es (config_of rs o.row) (state_of rs table m)) t) f q.told)
+            ∙ ap (λ (z : Gives). z >>= λ v. done v.config (put c v.config v.state)) (subst (ToldAs was (set on c true) c (length es + reach (set on c true) was) (walks rs (set on c true) c es (config_of rs o.row) (state was)) now) f q.told)
 
-        module _ (l : Loaded) (f : w ≡ Ok l) where
-          walked : Went rs (set on c true) c (m + length es + 8 * pending (set on c true) table) (walks rs (set on c true) c es (config_of rs o.row) (state_of rs table m)) t l
-          walked = subst (ToldAs rs (set on c true) c (m + length es + 8 * pending (set on c true) table) (walks rs (set on c true) c es (config_of rs o.row) (state_of rs table m)) t) f q.told
+        module _ (row : List ℕ) (f : w ≡ Ok row) where
+          walked : Went was (set on c true) c (length es + reach (set on c true) was) (walks rs (set on c true) c es (config_of rs o.row) (state was)) now row
+          walked = subst (ToldAs was (set on c true) c (length es + reach (set on c true) was) (walks rs (set on c true) c es (config_of rs o.row) (state was)) now) f q.told
 
-          pub load_done : length t ≡ 64 → Went rs on c (m + 8 * pending on table) (load (seen rs) (on_of on) c (state_of rs table m)) (set t c (Some l.row)) l
+          pub load_done : length now.table ≡ 64 → Went was on c (reach on was) (load (seen rs) (on_of on) c (state was)) (record { book = now.book; table = set now.table c (Some row); merges = now.merges }) row
           load_done n =
-              let k : c < length t = omega (arith, n, lt) in
+              let k : c < length now.table = omega (arith, n, lt) in
               record {
+                book = walked.book;
                 answer =
                     opens
                     ∙ ap (λ (z : Gives). z >>= λ v. done v.config (put c v.config v.state)) walked.answer
-                    ∙ sym (ap (done (config_of rs l.row)) (state_put rs t l.row c k l.merges));
+                    ∙ sym (ap (done (config_of rs row)) (state_put rs now.table row c k now.merges));
                 row = walked.row;
                 own = walked.own;
-                table = table_put rs t l.row c k walked.row walked.own walked.table;
-                few = omega (arith, walked.few, few_entries, pending_after rs t l.row c k on (omega (arith, long, lt)), pending_falls on table c lt long off free);
+                table = table_put rs now.table row c k walked.row walked.own walked.table;
+                few = omega (arith, walked.few, few_entries, pending_after rs now.table row c k on (omega (arith, long, lt)), pending_falls on was.table c lt long off free);
               }
 
 -- what the walk from the record asks
-pub walk_start : (book : CheckedBook) (t : List (Option (List ℕ))) (on : List Bool) (c m : ℕ) → length on ≡ 64 → LoadPre book t on c m → get_or on c false ≡ false → (o : Opened) → OpenedAs (records_in book) c o → (es : List Entry) → es ≡ take o.entries.count o.entries.all → WalkPre book t (set on c true) c es o.row m
-walk_start book t on c m long p off o q es is = record {
+pub walk_start : (l : Loads) (on : List Bool) (c : ℕ) → length on ≡ 64 → LoadPre l on c → get_or on c false ≡ false → (o : Opened) → OpenedAs (records_of l) c o → (es : List Entry) → es ≡ take o.entries.count o.entries.all → WalkPre l (set on c true) c es o.row
+walk_start l on c long p off o q es is = record {
   table = p.table;
-  entries = subst (All (Inside (length book.paths.rows.now))) (sym is) (subst (λ (n : ℕ). All (Inside n) (take o.entries.count o.entries.all)) book.listed.size q.entries.inside);
+  entries = subst (All (Inside (length l.book.now.paths.rows.now))) (sym is) (subst (λ (n : ℕ). All (Inside n) (take o.entries.count o.entries.all)) l.book.now.listed.size q.entries.inside);
   row = q.row;
   own = q.own;
-  few = omega (arith, p.few, ap length is, length-take o.entries.count o.entries.all, o.entries.few, pending_falls on t c (omega (arith, p.inside, few_records book)) long off p.fresh);
+  few = omega (arith, p.few, ap length is, length-take o.entries.count o.entries.all, o.entries.few, pending_falls on l.table c (omega (arith, p.inside, few_records l.book.now)) long off p.fresh);
 }

@@ -13,11 +13,10 @@ use Rattle.tsconfig_resolver.specs.Find.{Supplied, SuppliedValue, seen}
 use Rattle.tsconfig_resolver.specs.Project.{Merged, Store}
 use Rattle.rows.specs.Rows.{number_of, config_of, Row}
 use Rattle.rows.specs.Checked.{records_in}
-use Rattle.rows.specs.declared.CheckedBook.{CheckedBook}
 use Rattle.entries.specs.declared.lists.Entry.{Entry}
 use Rattle.entries.specs.declared.lists.Entry.TheVariants.{Leads}
 use Rattle.entries.specs.Entries.{entry_of, entries_of, Inside}
-use Rattle.load.specs.declared.Loaded.{Loaded}
+use Rattle.load.specs.declared.Loads.{Loads}
 
 -- the chain as a test
 abbrev pub on_of : List Bool → ℕ → Bool
@@ -40,26 +39,39 @@ pub record Table (rs : List Parsed) (table : List (Option (List ℕ))) : Type 0 
   pub rows : (i : ℕ) (x : List ℕ) → held table i ≡ Some x → Row rs x
   pub own : (i : ℕ) (x : List ℕ) → held table i ≡ Some x → number_of x ≡ i
 
+-- the records of the book that is loaded from
+abbrev pub records_of : Loads → List Parsed
+records_of l = records_in l.book.now
+
+-- what is loaded, as the definition holds it
+abbrev pub state : Loads → Store
+state l = state_of (records_of l) l.table l.merges
+
+-- the merges that are made and those that are left to make under the chain
+abbrev pub reach : List Bool → Loads → ℕ
+reach on l = l.merges + 8 * pending on l.table
+
 -- what a load gives
 abbrev pub Gives : Type 0
 Gives = Answer (Gave SuppliedValue (Supplied Text))
 
--- a load that gives the row of the record c, with the table after it: what is left to make and the merges made are at most `most`
-pub record Went (rs : List Parsed) (on : List Bool) (c most : ℕ) (a : Gives) (t : List (Option (List ℕ))) (l : Loaded) : Type 0 where
-  pub answer : a ≡ done (config_of rs l.row) (state_of rs t l.merges)
-  pub row : Row rs l.row
-  pub own : number_of l.row ≡ c
-  pub table : Table rs t
-  pub few : l.merges + 8 * pending on t ≤ most
+-- a load that gives the row of the record c, and what is loaded after it: of the same book, and with `most` merges within reach at most
+pub record Went (was : Loads) (on : List Bool) (c most : ℕ) (a : Gives) (now : Loads) (x : List ℕ) : Type 0 where
+  pub book : now.book ≡ was.book
+  pub answer : a ≡ done (config_of (records_of was) x) (state_of (records_of was) now.table now.merges)
+  pub row : Row (records_of was) x
+  pub own : number_of x ≡ c
+  pub table : Table (records_of was) now.table
+  pub few : reach on now ≤ most
 
 -- what is told of a load that answers a
-abbrev pub ToldAs : List Parsed → List Bool → ℕ → ℕ → Gives → List (Option (List ℕ)) → Result Loaded Refusal → Type 0
-ToldAs rs on c most a table (Err r) = a ≡ refusal r
-ToldAs rs on c most a table (Ok l) = Went rs on c most a table l
+abbrev pub ToldAs : Loads → List Bool → ℕ → ℕ → Gives → Loads → Result (List ℕ) Refusal → Type 0
+ToldAs was on c most a now (Err r) = a ≡ refusal r
+ToldAs was on c most a now (Ok x) = Went was on c most a now x
 
 -- the same as one claim
-pub record Tells (rs : List Parsed) (on : List Bool) (c most : ℕ) (a : Gives) (t : List (Option (List ℕ))) (r : Result Loaded Refusal) : Type 0 where
-  pub told : ToldAs rs on c most a t r
+pub record Tells (was : Loads) (on : List Bool) (c most : ℕ) (a : Gives) (now : Loads) (r : Result (List ℕ) Refusal) : Type 0 where
+  pub told : ToldAs was on c most a now r
 
 -- the record that an entry of the record c leads to, or why there is none
 abbrev pub ParentAs : ℕ → Entry → Result ℕ Refusal → Type 0
@@ -71,22 +83,22 @@ abbrev pub walks : List Parsed → List Bool → ℕ → List Entry → Merged �
 walks rs on c es x s = walk (load (seen rs) (on_of on)) c (reverse (entries_of es)) x s
 
 -- what the load of the record c asks
-pub record LoadPre (book : CheckedBook) (t : List (Option (List ℕ))) (on : List Bool) (c m : ℕ) : Type 0 where
-  pub table : Table (records_in book) t
-  pub inside : c < length book.paths.rows.now
-  pub fresh : held t c ≡ None
-  pub few : m + 8 * pending on t ≤ 65536
+pub record LoadPre (l : Loads) (on : List Bool) (c : ℕ) : Type 0 where
+  pub table : Table (records_of l) l.table
+  pub inside : c < length l.book.now.paths.rows.now
+  pub fresh : held l.table c ≡ None
+  pub few : reach on l ≤ 65536
 
 -- what the walk over entries of the record c asks
-pub record WalkPre (book : CheckedBook) (t : List (Option (List ℕ))) (on : List Bool) (c : ℕ) (es : List Entry) (x : List ℕ) (m : ℕ) : Type 0 where
-  pub table : Table (records_in book) t
-  pub entries : All (Inside (length book.paths.rows.now)) es
-  pub row : Row (records_in book) x
+pub record WalkPre (l : Loads) (on : List Bool) (c : ℕ) (es : List Entry) (x : List ℕ) : Type 0 where
+  pub table : Table (records_of l) l.table
+  pub entries : All (Inside (length l.book.now.paths.rows.now)) es
+  pub row : Row (records_of l) x
   pub own : number_of x ≡ c
-  pub few : m + length es + 8 * pending on t ≤ 65536
+  pub few : length es + reach on l ≤ 65536
 
 -- what bringing the record v asks
-pub record BringPre (book : CheckedBook) (t : List (Option (List ℕ))) (on : List Bool) (v m : ℕ) : Type 0 where
-  pub table : Table (records_in book) t
-  pub inside : v < length book.paths.rows.now
-  pub few : m + 8 * pending on t ≤ 65536
+pub record BringPre (l : Loads) (on : List Bool) (v : ℕ) : Type 0 where
+  pub table : Table (records_of l) l.table
+  pub inside : v < length l.book.now.paths.rows.now
+  pub few : reach on l ≤ 65536

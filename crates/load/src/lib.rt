@@ -1,12 +1,11 @@
 // The load of a config with its extends.
 #![tactic(auto)]
 
-ghost use Rattle.std.specs.Prelude.{◌≡◌, ◌+◌, ◌*◌, length};
+ghost use Rattle.std.specs.Prelude.{◌+◌, length};
 ghost use Rattle.tsconfig_resolver.specs.Load.{load as load_of, recall};
 ghost use Rattle.tsconfig_resolver.specs.Find.{seen};
 ghost use Rattle.rows.specs.Rows.{config_of};
-ghost use Rattle.rows.specs.Checked.{records_in};
-ghost use Rattle.load.specs.Loads.{on_of, state_of, pending, ParentAs, Tells, LoadPre, WalkPre, BringPre, walks as walks_of};
+ghost use Rattle.load.specs.Loads.{on_of, records_of, state, reach, ParentAs, Tells, LoadPre, WalkPre, BringPre, walks as walks_of};
 
 use book::{Fault, MOST_RECORDS, Refusal};
 use entries::{Entry, Opened, open_record};
@@ -16,10 +15,11 @@ use rows::{CheckedBook, ROW};
 // The rows of the records that are loaded.
 pub type Table = [Option<[u8; ROW]>; MOST_RECORDS];
 
-// What a load gives: the config's row, and how many merges are made then.
-#[derive(Clone, Copy)]
-pub struct Loaded {
-    pub row: [u8; ROW],
+// What is loaded of a book so far: the rows of its records, and how many merges are made.
+#[derive(Drop)]
+pub struct Loads<'a> {
+    pub book: &'a CheckedBook<'a>,
+    pub table: Table,
     pub merges: usize,
 }
 
@@ -36,74 +36,61 @@ fn parent_of(entry: Entry, c: usize) -> Result<usize, Refusal>
     Err(Refusal { fault, place: c })
 }
 
-// Loads the record c, which is not in the table, under the chain, after m merges, and puts its row into the table.
-#[cycle(bring_load_walk)]
-pub fn load(
-    book: &CheckedBook<'_>,
-    table: &mut Table,
-    on: [bool; MOST_RECORDS],
-    c: usize,
-    m: usize,
-) -> Result<Loaded, Refusal>
-    requires { LoadPre book.now table.old on c m }
-    ensures { Tells (records_in book.now) on c (m + 8 * pending on table.old) (load_of (seen (records_in book.now)) (on_of on) c (state_of (records_in book.now) table.old m)) table.new result }
-{
-    if on[c] {
-        return Err(Refusal {
-            fault: Fault::Circular,
-            place: c,
-        });
+impl Loads<'_> {
+    // Loads the record c, which is not in the table, under the chain, and puts its row into the table. Gives the row.
+    #[cycle(bring_load_walk)]
+    pub fn load(&mut self, on: [bool; MOST_RECORDS], c: usize) -> Result<[u8; ROW], Refusal>
+        requires { LoadPre self.old on c }
+        ensures { Tells self.old on c (reach on self.old) (load_of (seen (records_of self.old)) (on_of on) c (state self.old)) self.new result }
+    {
+        if on[c] {
+            return Err(Refusal {
+                fault: Fault::Circular,
+                place: c,
+            });
+        }
+        let Opened { entries, row } = open_record(self.book, c)?;
+        let mut longer = on;
+        longer[c] = true;
+        let merged = self.walk(longer, c, entries.as_slice(), row)?;
+        self.table[c] = Some(merged);
+        Ok(merged)
     }
-    let Opened { entries, row } = open_record(book, c)?;
-    let mut longer = on;
-    longer[c] = true;
-    let loaded = walk(book, table, longer, c, entries.as_slice(), row, m)?;
-    table[c] = Some(loaded.row);
-    Ok(loaded)
-}
 
-// Loads the parents of the record c, by its extends entries, last first, and merges each into its row.
-#[cycle(bring_load_walk)]
-pub fn walk(
-    book: &CheckedBook<'_>,
-    table: &mut Table,
-    on: [bool; MOST_RECORDS],
-    c: usize,
-    entries: &[Entry],
-    own: [u8; ROW],
-    m: usize,
-) -> Result<Loaded, Refusal>
-    requires { WalkPre book.now table.old on c entries.now own m }
-    ensures { Tells (records_in book.now) on c (m + length entries.now + 8 * pending on table.old) (walks_of (records_in book.now) on c entries.now (config_of (records_in book.now) own) (state_of (records_in book.now) table.old m)) table.new result }
-{
-    let mut left = entries;
-    let mut row = own;
-    let mut merges = m;
-    // The list is cut at its end: what is left of it is what the rest of the walk is about.
-    while let [rest @ .., entry] = left {
-        let v = parent_of(*entry, c)?;
-        let far = bring(book, table, on, v, merges)?;
-        merge_row(&mut row, &far.row);
-        merges = far.merges + 1;
-        left = rest;
+    // Loads the parents of the record c, by its extends entries, last first, and merges each into its row. Gives the row.
+    #[cycle(bring_load_walk)]
+    pub fn walk(
+        &mut self,
+        on: [bool; MOST_RECORDS],
+        c: usize,
+        entries: &[Entry],
+        own: [u8; ROW],
+    ) -> Result<[u8; ROW], Refusal>
+        requires { WalkPre self.old on c entries.now own }
+        ensures { Tells self.old on c (length entries.now + reach on self.old) (walks_of (records_of self.old) on c entries.now (config_of (records_of self.old) own) (state self.old)) self.new result }
+    {
+        let mut left = entries;
+        let mut row = own;
+        // The list is cut at its end: what is left of it is what the rest of the walk is about.
+        while let [rest @ .., entry] = left {
+            let v = parent_of(*entry, c)?;
+            let far = self.bring(on, v)?;
+            merge_row(&mut row, &far);
+            self.merges += 1;
+            left = rest;
+        }
+        Ok(row)
     }
-    Ok(Loaded { row, merges })
-}
 
-// Brings the record v: it is in the table, or it is loaded into it under the chain.
-#[cycle(bring_load_walk)]
-fn bring(
-    book: &CheckedBook<'_>,
-    table: &mut Table,
-    on: [bool; MOST_RECORDS],
-    v: usize,
-    m: usize,
-) -> Result<Loaded, Refusal>
-    requires { BringPre book.now table.old on v m }
-    ensures { Tells (records_in book.now) on v (m + 8 * pending on table.old) (recall ((state_of (records_in book.now) table.old m).table v) (load_of (seen (records_in book.now)) (on_of on) v) (state_of (records_in book.now) table.old m)) table.new result }
-{
-    match table[v] {
-        Some(row) => Ok(Loaded { row, merges: m }),
-        None => load(book, table, on, v, m),
+    // Brings the record v: it is in the table, or it is loaded into it under the chain. Gives its row.
+    #[cycle(bring_load_walk)]
+    fn bring(&mut self, on: [bool; MOST_RECORDS], v: usize) -> Result<[u8; ROW], Refusal>
+        requires { BringPre self.old on v }
+        ensures { Tells self.old on v (reach on self.old) (recall ((state self.old).table v) (load_of (seen (records_of self.old)) (on_of on) v) (state self.old)) self.new result }
+    {
+        match self.table[v] {
+            Some(row) => Ok(row),
+            None => self.load(on, v),
+        }
     }
 }

@@ -3,6 +3,7 @@ use Rattle.book.specs.Index.{begin_of}
 use mathlib.Core.Path.{◌≡◌, refl, sym, ap, ap₂, subst, ◌∙◌, fun_ext}
 use mathlib.Core.List.{List, [], ◌∷◌, ◌++◌, map-append, reverse, append_assoc, append-nil}
 use mathlib.Core.Bool.{Bool, false, not, ◌&&◌}
+use Rattle.std.proofs.Common.{Bor}
 use Rattle.std.specs.Prelude.{Option, Some, None, is_some, option_map, Result, Ok, Err}
 use Prim.Native.Nat.{ℕ, zero, suc, ◌+◌, ◌*◌, ◌<◌, ◌≤◌}
 use native.Mathlib.Omega.{arith}
@@ -35,8 +36,8 @@ use Rattle.entries.specs.Entries.{entries_of}
 use Rattle.entries.specs.Opens.{OpenedAs}
 use Rattle.entries.proofs.Going.{all_join}
 use Rattle.entries.proofs.Dirs.{references_are, record_sound, few_references}
-use Rattle.load.specs.declared.Loaded.{Loaded}
-use Rattle.load.specs.Loads.{on_of, held, state_of, pending, Table, Gives, Went, ToldAs, Tells, walks, LoadPre}
+use Rattle.load.specs.declared.Loads.{Loads}
+use Rattle.load.specs.Loads.{on_of, held, state_of, pending, Table, records_of, state, reach, Gives, Went, ToldAs, Tells, walks, LoadPre}
 use Rattle.references.specs.References.{nobody, ReferPre, Refer, ReferAs, Refers, sites_of, Listed, ListedAs, Lists, Opened as Whole}
 
 pub nobody_on : on_of nobody ≡ (λ i. false)
@@ -52,43 +53,42 @@ nobody_on = fun_ext go
 
 -- One reference
 
-module _ (rs : List Parsed) (c r : ℕ) where
-  module _ (other : r ≡ c → ⊥) where
-    module _ (o : Opened) (p : OpenedAs rs r o) (es : List Entry) (is : es ≡ take o.entries.count o.entries.all) where
-      refer_walks : (s : Store) → refer (seen rs) c r s ≡ walks rs nobody r es (config_of rs o.row) s
-      refer_walks s =
-          (rw (ne_eqb r c other, p.read) refl)
-          ∙ sym (ap₂ (λ (chain : ℕ → Bool) (l : List line.Entry). walk (load (seen rs) chain) r (reverse l) (config_of rs o.row) s) nobody_on (ap entries_of is ∙ p.entries.entries)
-          ∙ ap (λ (x : Merged). walk (load (seen rs) (λ i. false)) r (reverse ((seen rs).entries r)) x s) p.config)
+module _ (was : Loads) (c r : ℕ) (other : r ≡ c → ⊥) (o : Opened) (p : OpenedAs (records_of was) r o) (es : List Entry) (is : es ≡ take o.entries.count o.entries.all) where
+  refer_walks : refer (seen (records_of was)) c r (state was) ≡ walks (records_of was) nobody r es (config_of (records_of was) o.row) (state was)
+  refer_walks =
+      (rw (ne_eqb r c other, p.read) refl)
+      ∙ sym (ap₂ (λ (chain : ℕ → Bool) (l : List line.Entry). walk (load (seen (records_of was)) chain) r (reverse l) (config_of (records_of was) o.row) (state was)) nobody_on (ap entries_of is ∙ p.entries.entries)
+      ∙ ap (λ (x : Merged). walk (load (seen (records_of was)) (λ i. false)) r (reverse ((seen (records_of was)).entries r)) x (state was)) p.config)
 
-      pub refer_walk : (table : List (Option (List ℕ))) (m : ℕ) (t : List (Option (List ℕ))) (w : Result Loaded Refusal) →
-          Tells rs nobody r (m + length es + 8 * pending nobody table) (walks rs nobody r es (config_of rs o.row) (state_of rs table m)) t w →
-          Tells rs nobody r (m + 8 + 8 * pending nobody table) (refer (seen rs) c r (state_of rs table m)) t w
-      refer_walk table m t (Err f) q = record { told = refer_walks (state_of rs table m) ∙ q.told }
-      refer_walk table m t (Ok l) q =
-          let few : length es ≤ 8 = omega (arith, ap length is, length-take o.entries.count o.entries.all, o.entries.few) in
-          record { told = record { answer = refer_walks (state_of rs table m) ∙ q.told.answer; row = q.told.row; own = q.told.own; table = q.told.table; few = omega (arith, few, q.told.few) } }
+  pub refer_walk : (now : Loads) (w : Result (List ℕ) Refusal) →
+      Tells was nobody r (length es + reach nobody was) (walks (records_of was) nobody r es (config_of (records_of was) o.row) (state was)) now w →
+      Tells was nobody r (8 + reach nobody was) (refer (seen (records_of was)) c r (state was)) now w
+  refer_walk now (Err f) q = record { told = refer_walks ∙ q.told }
+  refer_walk now (Ok x) q =
+      let few : length es ≤ 8 = omega (arith, ap length is, length-take o.entries.count o.entries.all, o.entries.few) in
+      record { told = record { book = q.told.book; answer = refer_walks ∙ q.told.answer; row = q.told.row; own = q.told.own; table = q.told.table; few = omega (arith, few, q.told.few) } }
 
 -- a reference by its text
-module _ (rs : List Parsed) (c : ℕ) (s : Text) (table : List (Option (List ℕ))) (m : ℕ) (f : Option ℕ) (e : f ≡ meant rs c s) where
-  pub meant_nothing : f ≡ None → refer_to rs c (meant rs c s) (state_of rs table m) ≡ refused 8 c
+module _ (was : Loads) (c : ℕ) (s : Text) (f : Option ℕ) (e : f ≡ meant (records_of was) c s) where
+  pub meant_nothing : f ≡ None → refer_to (records_of was) c (meant (records_of was) c s) (state was) ≡ refused 8 c
   unfolding refer_to
-  meant_nothing g = ap (λ (o : Option ℕ). refer_to rs c o (state_of rs table m)) (sym e ∙ g)
+  meant_nothing g = ap (λ (o : Option ℕ). refer_to (records_of was) c o (state was)) (sym e ∙ g)
 
   module _ (r : ℕ) (g : f ≡ Some r) where
-    means : refer_to rs c (meant rs c s) (state_of rs table m) ≡ (refer (seen rs) c r (state_of rs table m) >>= λ x. given (record { site = site_at rs r x.config; state = x.state }))
+    means : refer_to (records_of was) c (meant (records_of was) c s) (state was) ≡ (refer (seen (records_of was)) c r (state was) >>= λ x. given (record { site = site_at (records_of was) r x.config; state = x.state }))
     unfolding refer_to
-    means = ap (λ (o : Option ℕ). refer_to rs c o (state_of rs table m)) (sym e ∙ g)
+    means = ap (λ (o : Option ℕ). refer_to (records_of was) c o (state was)) (sym e ∙ g)
 
-    pub meant_told : (most : ℕ) (t : List (Option (List ℕ))) (w : Result Loaded Refusal) → Tells rs nobody r most (refer (seen rs) c r (state_of rs table m)) t w → Refers rs most (refer_to rs c (meant rs c s) (state_of rs table m)) t w
+    pub meant_told : (most : ℕ) (now : Loads) (w : Result (List ℕ) Refusal) → Tells was nobody r most (refer (seen (records_of was)) c r (state was)) now w → Refers was most (refer_to (records_of was) c (meant (records_of was) c s) (state was)) now w
     unfolding site_of
-    meant_told most t (Err h) q = record { told = means ∙ ap (λ (z : Gives). z >>= λ x. given (record { site = site_at rs r x.config; state = x.state })) q.told }
-    meant_told most t (Ok l) q =
+    meant_told most now (Err h) q = record { told = means ∙ ap (λ (z : Gives). z >>= λ x. given (record { site = site_at (records_of was) r x.config; state = x.state })) q.told }
+    meant_told most now (Ok x) q =
         record {
           told = record {
+            book = q.told.book;
             answer =
-                means ∙ ap (λ (z : Gives). z >>= λ x. given (record { site = site_at rs r x.config; state = x.state })) q.told.answer
-                ∙ ap (λ (i : ℕ). given (record { site = site_at rs i (config_of rs l.row); state = state_of rs t l.merges })) (sym q.told.own);
+                means ∙ ap (λ (z : Gives). z >>= λ x. given (record { site = site_at (records_of was) r x.config; state = x.state })) q.told.answer
+                ∙ ap (λ (i : ℕ). given (record { site = site_at (records_of was) i (config_of (records_of was) x); state = state_of (records_of was) now.table now.merges })) (sym q.told.own);
             row = q.told.row;
             table = q.told.table;
             few = q.told.few;
@@ -98,15 +98,16 @@ module _ (rs : List Parsed) (c : ℕ) (s : Text) (table : List (Option (List ℕ
 -- The loop over the references
 
 -- count references are loaded, and these are left
-pub record Referring (book : CheckedBook) (c : ℕ) (s : Store) (table : List (Option (List ℕ))) (refs : List (List ℕ)) (left : List Text) (count made : ℕ) : Type 0 where
+pub record Referring (was : Loads) (c : ℕ) (now : Loads) (refs : List (List ℕ)) (left : List Text) (count : ℕ) : Type 0 where
+  pub book : now.book ≡ was.book
   pub rest :
-      references_of (records_in book) c (record_at (records_in book) c).references s
-      ≡ (references_of (records_in book) c left (state_of (records_in book) table made) >>= λ more. given (sites_of (records_in book) (take count refs) ++ more))
+      references_of (records_of was) c (record_at (records_of was) c).references (state was)
+      ≡ (references_of (records_of now) c left (state now) >>= λ more. given (sites_of (records_of now) (take count refs) ++ more))
   pub few : count + length left ≤ 16
-  pub rows : All (Row (records_in book)) (take count refs)
+  pub rows : All (Row (records_of now)) (take count refs)
   pub long : length refs ≡ 16
-  pub holds : Table (records_in book) table
-  pub spent : made + 8 * pending nobody table ≤ 512 + 8 * count
+  pub holds : Table (records_of now) now.table
+  pub spent : reach nobody now ≤ 512 + 8 * count
 
 given_self : (a : Answer (List Site)) → a ≡ (a >>= λ more. given ([] ++ more))
 given_self (refused k p) = refl
@@ -116,69 +117,71 @@ both : (a : Answer (List Site)) (x : Site) (l k : List Site) → l ++ (x ∷ [])
 both (refused n p) x l k e = refl
 both (given more) x l k e = ap given (sym (append_assoc l (x ∷ []) more) ∙ ap (◌++ more) e)
 
-module _ (book : CheckedBook) (c : ℕ) where
+module _ (was : Loads) (c : ℕ) (inside : c < length was.book.now.paths.rows.now) where
   pub referring_start :
-      (inside : c < length book.paths.rows.now) (table : List (Option (List ℕ))) (refs : List (List ℕ)) (m : ℕ) → length refs ≡ 16 → Table (records_in book) table → m + 8 * pending nobody table ≤ 512 →
-      (left : List Text) → left ≡ strings book.paths.text.now reference (index.record_at book.commands.now (begin_of book.paths.rows.now c)) → Referring book c (state_of (records_in book) table m) table refs left 0 m
-  referring_start inside table refs m l t h left e = record {
+      (refs : List (List ℕ)) → length refs ≡ 16 → Table (records_of was) was.table → reach nobody was ≤ 512 →
+      (left : List Text) → left ≡ strings was.book.now.paths.text.now reference (index.record_at was.book.now.commands.now (begin_of was.book.now.paths.rows.now c)) → Referring was c was refs left 0
+  referring_start refs l t h left e = record {
+    book = refl;
     rest =
-        ap (λ (ts : List Text). references_of (records_in book) c ts (state_of (records_in book) table m)) (references_are book c inside ∙ sym e)
-        ∙ given_self (references_of (records_in book) c left (state_of (records_in book) table m));
-    few = omega (arith, ap length e, few_references book.paths.text.now (index.record_at book.commands.now (begin_of book.paths.rows.now c)) (record_sound book c inside));
+        ap (λ (ts : List Text). references_of (records_of was) c ts (state was)) (references_are was.book.now c inside ∙ sym e)
+        ∙ given_self (references_of (records_of was) c left (state was));
+    few = omega (arith, ap length e, few_references was.book.now.paths.text.now (index.record_at was.book.now.commands.now (begin_of was.book.now.paths.rows.now c)) (record_sound was.book.now c inside));
     rows = nil;
     long = l;
     holds = t;
     spent = omega (arith, h);
   }
 
-  module _ (s : Store) (table : List (Option (List ℕ))) (refs : List (List ℕ)) (left : List Text) (count made : ℕ) (p : Referring book c s table refs left count made) where
-    pub referring_end : left ≡ [] → Listed (records_in book) (references_of (records_in book) c (record_at (records_in book) c).references s) refs count
+  module _ (now : Loads) (refs : List (List ℕ)) (left : List Text) (count : ℕ) (p : Referring was c now refs left count) where
+    pub referring_end : left ≡ [] → Listed (records_of was) (references_of (records_of was) c (record_at (records_of was) c).references (state was)) refs count
     unfolding references_of
-    referring_end e = record {
+    referring_end e = subst (λ b. Listed (records_in b.now) (references_of (records_of was) c (record_at (records_of was) c).references (state was)) refs count) p.book (record {
       answer =
           p.rest
-          ∙ ap (λ (l : List Text). references_of (records_in book) c l (state_of (records_in book) table made) >>= λ more. given (sites_of (records_in book) (take count refs) ++ more)) e
-          ∙ ap given (append-nil (sites_of (records_in book) (take count refs)));
+          ∙ ap (λ (l : List Text). references_of (records_of now) c l (state now) >>= λ more. given (sites_of (records_of now) (take count refs) ++ more)) e
+          ∙ ap given (append-nil (sites_of (records_of now) (take count refs)));
       few = omega (arith, p.few);
       rows = p.rows;
-    }
+    })
 
     module _ {u : Text} {next : List Text} (e : left ≡ u ∷ next) where
       pub referring_room : count < 16
       referring_room = omega (arith, p.few, ap length e)
 
       -- what the next reference asks
-      pub referring_next : c < length book.paths.rows.now → ReferPre book table c made
-      referring_next h = record { table = p.holds; inside = h; few = omega (arith, p.spent, referring_room) }
+      pub referring_next : ReferPre now c
+      referring_next = record { table = p.holds; inside = subst (λ b. c < length b.now.paths.rows.now) (sym p.book) inside; few = omega (arith, p.spent, referring_room) }
 
-      module _ (t : List (Option (List ℕ))) (w : Result Loaded Refusal) (q : Refers (records_in book) (made + 8 + 8 * pending nobody table) (refer_to (records_in book) c (meant (records_in book) c u) (state_of (records_in book) table made)) t w) where
-        opens : (a : Answer Referred) → refer_to (records_in book) c (meant (records_in book) c u) (state_of (records_in book) table made) ≡ a →
-            references_of (records_in book) c (record_at (records_in book) c).references s
-            ≡ ((a >>= λ y. (references_of (records_in book) c next y.state >>= λ more. given (y.site ∷ more))) >>= λ more. given (sites_of (records_in book) (take count refs) ++ more))
+      module _ (new : Loads) (w : Result (List ℕ) Refusal) (q : Refers now (8 + reach nobody now) (refer_to (records_of now) c (meant (records_of now) c u) (state now)) new w) where
+        opens : (a : Answer Referred) → refer_to (records_of now) c (meant (records_of now) c u) (state now) ≡ a →
+            references_of (records_of was) c (record_at (records_of was) c).references (state was)
+            ≡ ((a >>= λ y. (references_of (records_of now) c next y.state >>= λ more. given (y.site ∷ more))) >>= λ more. given (sites_of (records_of now) (take count refs) ++ more))
         unfolding references_of
         opens a h =
             p.rest
-            ∙ ap (λ (l : List Text). references_of (records_in book) c l (state_of (records_in book) table made) >>= λ more. given (sites_of (records_in book) (take count refs) ++ more)) e
-            ∙ ap (λ (z : Answer Referred). (z >>= λ y. (references_of (records_in book) c next y.state >>= λ more. given (y.site ∷ more))) >>= λ more. given (sites_of (records_in book) (take count refs) ++ more)) h
+            ∙ ap (λ (l : List Text). references_of (records_of now) c l (state now) >>= λ more. given (sites_of (records_of now) (take count refs) ++ more)) e
+            ∙ ap (λ (z : Answer Referred). (z >>= λ y. (references_of (records_of now) c next y.state >>= λ more. given (y.site ∷ more))) >>= λ more. given (sites_of (records_of now) (take count refs) ++ more)) h
 
-        pub referring_refused : (f : Refusal) → w ≡ Err f → references_of (records_in book) c (record_at (records_in book) c).references s ≡ refusal f
-        referring_refused f h = opens (refusal f) (subst (ReferAs (records_in book) (made + 8 + 8 * pending nobody table) (refer_to (records_in book) c (meant (records_in book) c u) (state_of (records_in book) table made)) t) h q.told)
+        pub referring_refused : (f : Refusal) → w ≡ Err f → references_of (records_of was) c (record_at (records_of was) c).references (state was) ≡ refusal f
+        referring_refused f h = opens (refusal f) (subst (ReferAs now (8 + reach nobody now) (refer_to (records_of now) c (meant (records_of now) c u) (state now)) new) h q.told)
 
-        pub referring_on : (l : Loaded) → w ≡ Ok l → Referring book c s t (set refs count l.row) next (count + 1) l.merges
-        referring_on l h =
-            let z : Refer (records_in book) (made + 8 + 8 * pending nobody table) (refer_to (records_in book) c (meant (records_in book) c u) (state_of (records_in book) table made)) t l = subst (ReferAs (records_in book) (made + 8 + 8 * pending nobody table) (refer_to (records_in book) c (meant (records_in book) c u) (state_of (records_in book) table made)) t) h q.told in
-            let more : take (count + 1) (set refs count l.row) ≡ take count refs ++ (l.row ∷ []) = ap (λ (j : ℕ). take j (set refs count l.row)) (add-one count) ∙ take-suc-set refs count l.row (omega (arith, p.long, referring_room)) in
-            record {
+        pub referring_on : (x : List ℕ) → w ≡ Ok x → Referring was c new (set refs count x) next (count + 1)
+        referring_on x h =
+            let z : Refer now (8 + reach nobody now) (refer_to (records_of now) c (meant (records_of now) c u) (state now)) new x = subst (ReferAs now (8 + reach nobody now) (refer_to (records_of now) c (meant (records_of now) c u) (state now)) new) h q.told in
+            let more : take (count + 1) (set refs count x) ≡ take count refs ++ (x ∷ []) = ap (λ (j : ℕ). take j (set refs count x)) (add-one count) ∙ take-suc-set refs count x (omega (arith, p.long, referring_room)) in
+            subst (λ b. Referring was c (record { book = b; table = new.table; merges = new.merges }) (set refs count x) next (count + 1)) (sym z.book) (record {
+              book = p.book;
               rest =
-                  opens (given (record { site = site_of (records_in book) l.row; state = state_of (records_in book) t l.merges })) z.answer
-                  ∙ both (references_of (records_in book) c next (state_of (records_in book) t l.merges)) (site_of (records_in book) l.row) (sites_of (records_in book) (take count refs)) (sites_of (records_in book) (take (count + 1) (set refs count l.row)))
-                  (sym (ap (sites_of (records_in book)) more ∙ map-append (site_of (records_in book)) (take count refs) (l.row ∷ [])));
+                  opens (given (record { site = site_of (records_of now) x; state = state_of (records_of now) new.table new.merges })) z.answer
+                  ∙ both (references_of (records_of now) c next (state_of (records_of now) new.table new.merges)) (site_of (records_of now) x) (sites_of (records_of now) (take count refs)) (sites_of (records_of now) (take (count + 1) (set refs count x)))
+                  (sym (ap (sites_of (records_of now)) more ∙ map-append (site_of (records_of now)) (take count refs) (x ∷ [])));
               few = omega (arith, p.few, ap length e);
-              rows = subst (All (Row (records_in book))) (sym more) (all_join (take count refs) (l.row ∷ []) p.rows (cons z.row nil));
-              long = length-set refs count l.row ∙ p.long;
+              rows = subst (All (Row (records_of now))) (sym more) (all_join (take count refs) (x ∷ []) p.rows (cons z.row nil));
+              long = length-set refs count x ∙ p.long;
               holds = z.table;
               spent = omega (arith, z.few, p.spent);
-            }
+            })
 
 -- The whole
 
@@ -206,44 +209,60 @@ module _ (rs : List Parsed) where
   unfolding pending
   pending_few on t = tally_le 64 (λ i. not (on_of on i) && not (is_some (held t i)))
 
-  module _ (c : ℕ) (t : List (Option (List ℕ))) (w : Result Loaded Refusal) (q : Tells rs nobody c (0 + 8 * pending nobody unloaded) (load (seen rs) (on_of nobody) c (state_of rs unloaded 0)) t w) where
-    asks : load (seen rs) (on_of nobody) c (state_of rs unloaded 0) ≡ load_asked (seen rs) c
-    asks = ap₂ (λ (chain : ℕ → Bool) (s : Store). load (seen rs) chain c s) nobody_on blank_state
+-- nothing is loaded of the book
+abbrev pub none_of : Bor CheckedBook → Loads
+none_of book = record { book = book; table = unloaded; merges = 0 }
+
+module _ (book : Bor CheckedBook) (c : ℕ) where
+  -- the records of the book
+  abbrev rs : List Parsed
+  rs = records_in book.now
+
+  module _ (t : Loads) (w : Result (List ℕ) Refusal) (q : Tells (none_of book) nobody c (reach nobody (none_of book)) (load (seen rs) (on_of nobody) c (state (none_of book))) t w) where
+    asks : load (seen rs) (on_of nobody) c (state (none_of book)) ≡ load_asked (seen rs) c
+    asks = ap₂ (λ (chain : ℕ → Bool) (s : Store). load (seen rs) chain c s) nobody_on (blank_state rs)
 
     pub whole_refused : (f : Refusal) → w ≡ Err f → load_record rs c ≡ refusal f
     unfolding load_record
     whole_refused f e =
         ap (λ (z : Gives). z >>= λ x. (references_of rs c (record_at rs c).references x.state >>= λ refs. given (record { site = site_at rs c x.config; references = refs; merges = x.state.merges })))
-        (sym asks ∙ subst (ToldAs rs nobody c (0 + 8 * pending nobody unloaded) (load (seen rs) (on_of nobody) c (state_of rs unloaded 0)) t) e q.told)
+        (sym asks ∙ subst (ToldAs (none_of book) nobody c (reach nobody (none_of book)) (load (seen rs) (on_of nobody) c (state (none_of book))) t) e q.told)
 
-    module _ (l : Loaded) (e : w ≡ Ok l) where
-      went : Went rs nobody c (0 + 8 * pending nobody unloaded) (load (seen rs) (on_of nobody) c (state_of rs unloaded 0)) t l
-      went = subst (ToldAs rs nobody c (0 + 8 * pending nobody unloaded) (load (seen rs) (on_of nobody) c (state_of rs unloaded 0)) t) e q.told
+    module _ (x : List ℕ) (e : w ≡ Ok x) where
+      went : Went (none_of book) nobody c (reach nobody (none_of book)) (load (seen rs) (on_of nobody) c (state (none_of book))) t x
+      went = subst (ToldAs (none_of book) nobody c (reach nobody (none_of book)) (load (seen rs) (on_of nobody) c (state (none_of book))) t) e q.told
 
-      few : l.merges + 8 * pending nobody t ≤ 512
-      few = omega (arith, went.few, pending_few nobody unloaded)
+      few : reach nobody t ≤ 512
+      few = omega (arith, went.few, pending_few rs nobody unloaded)
 
-      goes : load_record rs c ≡ (references_of rs c (record_at rs c).references (state_of rs t l.merges) >>= λ refs. given (record { site = site_at rs c (config_of rs l.row); references = refs; merges = l.merges }))
+      -- what the references ask
+      pub record_references : c < length book.now.paths.rows.now → ReferPre t c × (reach nobody t ≤ 512)
+      record_references inside = (subst (λ b. ReferPre (record { book = b; table = t.table; merges = t.merges }) c) (sym went.book) (record { table = went.table; inside = inside; few = omega (arith, few) }), few)
+
+      goes : load_record rs c ≡ (references_of rs c (record_at rs c).references (state_of rs t.table t.merges) >>= λ refs. given (record { site = site_at rs c (config_of rs x); references = refs; merges = t.merges }))
       unfolding load_record state_of
       goes =
           ap (λ (z : Gives). z >>= λ x. (references_of rs c (record_at rs c).references x.state >>= λ refs. given (record { site = site_at rs c x.config; references = refs; merges = x.state.merges })))
           (sym asks ∙ went.answer)
 
-      module _ (refs : List (List ℕ)) (v : Result ℕ Refusal) (p : Lists rs (references_of rs c (record_at rs c).references (state_of rs t l.merges)) refs v) where
+      module _ (refs : List (List ℕ)) (v : Result ℕ Refusal) (p : Lists (records_of t) (references_of (records_of t) c (record_at (records_of t) c).references (state t)) refs v) where
+        listed : ListedAs rs (references_of rs c (record_at rs c).references (state_of rs t.table t.merges)) refs v
+        listed = subst (λ (b : Bor CheckedBook). ListedAs (records_in b.now) (references_of (records_in b.now) c (record_at (records_in b.now) c).references (state_of (records_in b.now) t.table t.merges)) refs v) went.book p.told
+
         pub whole_reference : (f : Refusal) → v ≡ Err f → load_record rs c ≡ refusal f
         whole_reference f h =
             goes
-            ∙ ap (λ (y : Answer (List Site)). y >>= λ refs. given (record { site = site_at rs c (config_of rs l.row); references = refs; merges = l.merges })) (subst (ListedAs rs (references_of rs c (record_at rs c).references (state_of rs t l.merges)) refs) h p.told)
+            ∙ ap (λ (y : Answer (List Site)). y >>= λ refs. given (record { site = site_at rs c (config_of rs x); references = refs; merges = t.merges })) (subst (ListedAs rs (references_of rs c (record_at rs c).references (state_of rs t.table t.merges)) refs) h listed)
 
-        pub whole_done : (k : ℕ) → v ≡ Ok k → Whole rs c (record { row = l.row; references = refs; count = k; merges = l.merges })
+        pub whole_done : (k : ℕ) → v ≡ Ok k → Whole rs c (record { row = x; references = refs; count = k; merges = t.merges })
         unfolding site_of
         whole_done k h =
-            let z : Listed rs (references_of rs c (record_at rs c).references (state_of rs t l.merges)) refs k = subst (ListedAs rs (references_of rs c (record_at rs c).references (state_of rs t l.merges)) refs) h p.told in
+            let z : Listed rs (references_of rs c (record_at rs c).references (state_of rs t.table t.merges)) refs k = subst (ListedAs rs (references_of rs c (record_at rs c).references (state_of rs t.table t.merges)) refs) h listed in
             record {
               answer =
                   goes
-                  ∙ ap (λ (y : Answer (List Site)). y >>= λ refs. given (record { site = site_at rs c (config_of rs l.row); references = refs; merges = l.merges })) z.answer
-                  ∙ ap (λ (i : ℕ). given (record { site = site_at rs i (config_of rs l.row); references = sites_of rs (take k refs); merges = l.merges })) (sym went.own);
+                  ∙ ap (λ (y : Answer (List Site)). y >>= λ refs. given (record { site = site_at rs c (config_of rs x); references = refs; merges = t.merges })) z.answer
+                  ∙ ap (λ (i : ℕ). given (record { site = site_at rs i (config_of rs x); references = sites_of rs (take k refs); merges = t.merges })) (sym went.own);
               row = went.row;
               own = went.own;
               few = z.few;
@@ -251,12 +270,6 @@ module _ (rs : List Parsed) where
               small = omega (arith, few);
             }
 
--- What the calls ask
-
-module _ (book : CheckedBook) (c : ℕ) (inside : c < length book.paths.rows.now) where
-  pub record_load : LoadPre book unloaded nobody c 0
-  record_load = record { table = blank_table (records_in book); inside = inside; fresh = nothing_held 64 c; few = omega (arith, pending_few (records_in book) nobody unloaded) }
-
-  module _ (t : List (Option (List ℕ))) (w : Result Loaded Refusal) (q : Tells (records_in book) nobody c (0 + 8 * pending nobody unloaded) (load (seen (records_in book)) (on_of nobody) c (state_of (records_in book) unloaded 0)) t w) (l : Loaded) (e : w ≡ Ok l) where
-    pub record_references : ReferPre book t c l.merges × (l.merges + 8 * pending nobody t ≤ 512)
-    record_references = (record { table = (went (records_in book) c t w q l e).table; inside = inside; few = omega (arith, few (records_in book) c t w q l e) }, few (records_in book) c t w q l e)
+  -- what the load asks
+  pub record_load : c < length book.now.paths.rows.now → LoadPre (none_of book) nobody c
+  record_load inside = record { table = blank_table rs; inside = inside; fresh = nothing_held 64 c; few = omega (arith, pending_few rs nobody unloaded) }

@@ -1,7 +1,7 @@
 -- The contracts of the load of a config's references, and of the config with them.
 use Rattle.std.specs.Prelude.{length}
-use Rattle.std.specs.Prelude.{ℕ, ◌+◌, ◌*◌, ◌<◌, ◌≤◌, ◌≡◌, List, map, Bool, false, replicate, take}
-use Rattle.std.specs.Prelude.{Option, Result, Ok, Err}
+use Rattle.std.specs.Prelude.{ℕ, ◌+◌, ◌<◌, ◌≤◌, ◌≡◌, List, map, Bool, false, replicate, take}
+use Rattle.std.specs.Prelude.{Result, Ok, Err}
 use Rattle.book.specs.Answer.{Answer, given}
 use Rattle.book.specs.Refusals.{refusal}
 use Rattle.book.specs.Sound.{All}
@@ -10,10 +10,8 @@ use Rattle.tsconfig.specs.Parsed.{Parsed}
 use Rattle.tsconfig.specs.Claims.{Site}
 use Rattle.tsconfig_resolver.specs.Project.{Referred, load_record}
 use Rattle.rows.specs.Rows.{number_of, site_of, Row}
-use Rattle.rows.specs.Checked.{records_in}
-use Rattle.rows.specs.declared.CheckedBook.{CheckedBook}
-use Rattle.load.specs.Loads.{state_of, pending, Table}
-use Rattle.load.specs.declared.Loaded.{Loaded}
+use Rattle.load.specs.Loads.{records_of, state_of, reach, Table}
+use Rattle.load.specs.declared.Loads.{Loads}
 use Rattle.references.specs.declared.Project.{Project}
 
 -- no record on the chain
@@ -21,26 +19,27 @@ abbrev pub nobody : List Bool
 nobody = replicate 64 false
 
 -- what the load of the record r asks, as a reference or for its references
-pub record ReferPre (book : CheckedBook) (t : List (Option (List ℕ))) (r m : ℕ) : Type 0 where
-  pub table : Table (records_in book) t
-  pub inside : r < length book.paths.rows.now
-  pub few : m + 8 + 8 * pending nobody t ≤ 65536
+pub record ReferPre (l : Loads) (r : ℕ) : Type 0 where
+  pub table : Table (records_of l) l.table
+  pub inside : r < length l.book.now.paths.rows.now
+  pub few : 8 + reach nobody l ≤ 65536
 
--- a reference that is loaded
-pub record Refer (rs : List Parsed) (most : ℕ) (a : Answer Referred) (t : List (Option (List ℕ))) (l : Loaded) : Type 0 where
-  pub answer : a ≡ given (record { site = site_of rs l.row; state = state_of rs t l.merges })
-  pub row : Row rs l.row
-  pub table : Table rs t
-  pub few : l.merges + 8 * pending nobody t ≤ most
+-- a reference that is loaded, and what is loaded after it, of the same book
+pub record Refer (was : Loads) (most : ℕ) (a : Answer Referred) (now : Loads) (x : List ℕ) : Type 0 where
+  pub book : now.book ≡ was.book
+  pub answer : a ≡ given (record { site = site_of (records_of was) x; state = state_of (records_of was) now.table now.merges })
+  pub row : Row (records_of was) x
+  pub table : Table (records_of was) now.table
+  pub few : reach nobody now ≤ most
 
 -- what is told of a reference
-abbrev pub ReferAs : List Parsed → ℕ → Answer Referred → List (Option (List ℕ)) → Result Loaded Refusal → Type 0
-ReferAs rs most a t (Err r) = a ≡ refusal r
-ReferAs rs most a t (Ok l) = Refer rs most a t l
+abbrev pub ReferAs : Loads → ℕ → Answer Referred → Loads → Result (List ℕ) Refusal → Type 0
+ReferAs was most a now (Err r) = a ≡ refusal r
+ReferAs was most a now (Ok x) = Refer was most a now x
 
 -- the same as one claim
-pub record Refers (rs : List Parsed) (most : ℕ) (a : Answer Referred) (t : List (Option (List ℕ))) (r : Result Loaded Refusal) : Type 0 where
-  pub told : ReferAs rs most a t r
+pub record Refers (was : Loads) (most : ℕ) (a : Answer Referred) (now : Loads) (r : Result (List ℕ) Refusal) : Type 0 where
+  pub told : ReferAs was most a now r
 
 -- the configs of rows
 abbrev pub sites_of : List Parsed → List (List ℕ) → List Site

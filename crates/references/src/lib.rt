@@ -1,17 +1,17 @@
 // The load of a config with its extends and its references.
 #![tactic(auto)]
 
-ghost use Rattle.std.specs.Prelude.{◌≡◌, ◌+◌, ◌*◌, ◌≤◌, ◌<◌, length};
+ghost use Rattle.std.specs.Prelude.{◌+◌, ◌≤◌, ◌<◌, length};
 ghost use Rattle.tsconfig_resolver.specs.Find.{seen, meant, record_at};
 ghost use Rattle.tsconfig_resolver.specs.References.{refer as refer_of};
 ghost use Rattle.tsconfig_resolver.specs.Project.{refer_to, references_of};
 ghost use Rattle.rows.specs.Checked.{records_in};
-ghost use Rattle.load.specs.Loads.{state_of, pending, Tells};
+ghost use Rattle.load.specs.Loads.{records_of, state, reach, Tells};
 ghost use Rattle.references.specs.References.{Refers, Lists, WholeAs, ReferPre, nobody};
 
 use book::{Fault, MOST_RECORDS, REFERENCE, Refusal};
 use entries::{Opened, find_meant, open_record, record_dir};
-use load::{Loaded, Table, load, walk};
+use load::Loads;
 use rows::{ABSENT, CheckedBook, ROW};
 
 const REFERENCES: usize = 16;
@@ -26,17 +26,10 @@ pub struct Project {
     pub merges: usize,
 }
 
-// Loads the reference r of the record c, after m merges: its own row and its parents, by a chain that starts empty. It is not put into the
-// table.
-fn refer(
-    book: &CheckedBook<'_>,
-    table: &mut Table,
-    c: usize,
-    r: usize,
-    m: usize,
-) -> Result<Loaded, Refusal>
-    requires { ReferPre book.now table.old r m }
-    ensures { Tells (records_in book.now) nobody r (m + 8 + 8 * pending nobody table.old) (refer_of (seen (records_in book.now)) c r (state_of (records_in book.now) table.old m)) table.new result }
+// Loads the reference r of the record c: its own row and its parents, by a chain that starts empty. It is not put into the table.
+fn refer(loads: &mut Loads<'_>, c: usize, r: usize) -> Result<[u8; ROW], Refusal>
+    requires { ReferPre loads.old r }
+    ensures { Tells loads.old nobody r (8 + reach nobody loads.old) (refer_of (seen (records_of loads.old)) c r (state loads.old)) loads.new result }
 {
     if r == c {
         return Err(Refusal {
@@ -44,57 +37,38 @@ fn refer(
             place: c,
         });
     }
-    let Opened { entries, row } = open_record(book, r)?;
-    walk(
-        book,
-        table,
-        [false; MOST_RECORDS],
-        r,
-        entries.as_slice(),
-        row,
-        m,
-    )
+    let Opened { entries, row } = open_record(loads.book, r)?;
+    loads.walk([false; MOST_RECORDS], r, entries.as_slice(), row)
 }
 
-// Loads the reference s of the record c, after m merges.
-fn refer_to(
-    book: &CheckedBook<'_>,
-    table: &mut Table,
-    c: usize,
-    s: &[u8],
-    m: usize,
-) -> Result<Loaded, Refusal>
-    requires { ReferPre book.now table.old c m × (length s.now ≤ 512) }
-    ensures { Refers (records_in book.now) (m + 8 + 8 * pending nobody table.old) (refer_to (records_in book.now) c (meant (records_in book.now) c s.now) (state_of (records_in book.now) table.old m)) table.new result }
+// Loads the reference s of the record c.
+fn refer_to(loads: &mut Loads<'_>, c: usize, s: &[u8]) -> Result<[u8; ROW], Refusal>
+    requires { ReferPre loads.old c × (length s.now ≤ 512) }
+    ensures { Refers loads.old (8 + reach nobody loads.old) (refer_to (records_of loads.old) c (meant (records_of loads.old) c s.now) (state loads.old)) loads.new result }
 {
-    let dir = record_dir(book, c);
-    let Some(r) = find_meant(&book.paths, dir, s) else {
+    let dir = record_dir(loads.book, c);
+    let Some(r) = find_meant(&loads.book.paths, dir, s) else {
         return Err(Refusal {
             fault: Fault::NotFound,
             place: c,
         });
     };
-    refer(book, table, c, r, m)
+    refer(loads, c, r)
 }
 
-// Loads the references of the record c, in order, each to its row, after m merges. Gives how many.
+// Loads the references of the record c, in order, each to its row. Gives how many.
 fn load_references(
-    book: &CheckedBook<'_>,
-    table: &mut Table,
+    loads: &mut Loads<'_>,
     c: usize,
     refs: &mut [[u8; ROW]; REFERENCES],
-    m: usize,
 ) -> Result<usize, Refusal>
-    requires { ReferPre book.now table.old c m × (m + 8 * pending nobody table.old ≤ 512) }
-    ensures { Lists (records_in book.now) (references_of (records_in book.now) c (record_at (records_in book.now) c).references (state_of (records_in book.now) table.old m)) refs.new result }
+    requires { ReferPre loads.old c × (reach nobody loads.old ≤ 512) }
+    ensures { Lists (records_of loads.old) (references_of (records_of loads.old) c (record_at (records_of loads.old) c).references (state loads.old)) refs.new result }
 {
     // Counted as they are loaded: how many there are stands beside rows of fixed length.
     let mut count = 0;
-    let mut made = m;
-    for s in book.record_at(c).strings(REFERENCE) {
-        let Loaded { row, merges } = refer_to(book, table, c, s, made)?;
-        refs[count] = row;
-        made = merges;
+    for s in loads.book.record_at(c).strings(REFERENCE) {
+        refs[count] = refer_to(loads, c, s)?;
         count += 1;
     }
     Ok(count)
@@ -105,10 +79,15 @@ pub fn load_record(book: &CheckedBook<'_>, c: usize) -> Result<Project, Refusal>
     requires { c < length book.now.paths.rows.now }
     ensures { WholeAs (records_in book.now) c result }
 {
-    let mut table = [None; MOST_RECORDS];
-    let Loaded { row, merges } = load(book, &mut table, [false; MOST_RECORDS], c, 0)?;
+    let mut loads = Loads {
+        book,
+        table: [None; MOST_RECORDS],
+        merges: 0,
+    };
+    let row = loads.load([false; MOST_RECORDS], c)?;
+    let merges = loads.merges;
     let mut references = [[ABSENT; ROW]; REFERENCES];
-    let count = load_references(book, &mut table, c, &mut references, merges)?;
+    let count = load_references(&mut loads, c, &mut references)?;
     Ok(Project {
         row,
         references,

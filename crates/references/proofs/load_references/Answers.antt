@@ -11,22 +11,22 @@ loop-s-init c =
     let own = c.record_at.ensures in
     let items = c.strings-s-items.ensures in
     let begun = c.into_iter-s-iterator.ensures.into_iter_gives in
-    referring_start a.book.now a.c c.requires.0.inside a.table.now a.refs.now a.m (omega arith) c.requires.0.table c.requires.1 _
-    (strings_are a.book.now a.c c.requires.0.inside c.record_at.result own.at own.commands own.text _ (ap (λ (it : Strings). it.record) begun ∙ items.record) _ (ap (λ (it : Strings). it.op) begun ∙ items.op))
+    referring_start a.loads.now a.c c.requires.0.inside a.refs.now (omega arith) c.requires.0.table c.requires.1 _
+    (strings_are a.loads.now.book.now a.c c.requires.0.inside c.record_at.result own.at own.commands own.text _ (ap (λ (it : Strings). it.record) begun ∙ items.record) _ (ap (λ (it : Strings). it.op) begun ∙ items.op))
 
 pub refer_to-requires : goal.refer_to-requires
-refer_to-requires c = (referring_next _ _ _ _ _ _ _ _ c.loop-s.invariant c.in-Some.ensures.steps.first c.requires.0.inside, c.in-Some.ensures.steps.short)
+refer_to-requires c = (referring_next _ _ c.requires.0.inside _ _ _ _ c.loop-s.invariant c.in-Some.ensures.steps.first, c.in-Some.ensures.steps.short)
 
-pub returns-in_err-row : goal.returns-in_err-row
-returns-in_err-row c =
+pub returns-in_err-refs : goal.returns-in_err-refs
+returns-in_err-refs c =
     let p = err_from_is_err_and c.from_residual.result c.from_residual.ensures.1 in
-    rw (p.1, p.2) (record { told = referring_refused _ _ _ _ _ _ _ _ c.loop-s.invariant c.in-Some.ensures.steps.first _ _ c.refer_to.ensures _ c.in_err-row.was })
+    rw (p.1, p.2) (record { told = referring_refused _ _ c.requires.0.inside _ _ _ _ c.loop-s.invariant c.in-Some.ensures.steps.first _ _ c.refer_to.ensures _ c.in_err-refs.was })
 
 pub bounds-refs-count : goal.bounds-refs-count
-bounds-refs-count c = referring_room _ _ _ _ _ _ _ _ c.loop-s.invariant c.in-Some.ensures.steps.first
+bounds-refs-count c = referring_room _ _ c.requires.0.inside _ _ _ _ c.loop-s.invariant c.in-Some.ensures.steps.first
 
 pub loop-s-preserved : goal.loop-s-preserved
-loop-s-preserved c = referring_on _ _ _ _ _ _ _ _ c.loop-s.invariant c.in-Some.ensures.steps.first _ _ c.refer_to.ensures _ c.in_ok-row.was
+loop-s-preserved c = referring_on _ _ c.requires.0.inside _ _ _ _ c.loop-s.invariant c.in-Some.ensures.steps.first _ _ c.refer_to.ensures _ c.in_ok-refs.was
 
 pub returns : goal.returns
-returns c = record { told = referring_end _ _ _ _ _ _ _ _ c.loop-s.invariant c.in-None.ensures.steps.first.0 }
+returns c = record { told = referring_end _ _ c.requires.0.inside _ _ _ _ c.loop-s.invariant c.in-None.ensures.steps.first.0 }

@@ -1,6 +1,6 @@
 use Rattle.std.proofs.Common.{◌+◌, ◌*◌, length}
 use Rattle.load.proofs.Walks.{spare, Walking}
-use Rattle.load.proofs.+bring_load_walk.Given as goal
+use Rattle.load.proofs.Loads.+bring_load_walk.Given as goal
 
 abbrev pub decreases-bring : goal.decreases-bring
 decreases-bring l = spare l.on * 3 + 1
@@ -12,7 +12,7 @@ abbrev pub decreases-walk : goal.decreases-walk
 decreases-walk l = spare l.on * 3 + 2
 
 abbrev pub invariant-walk-loop-left : goal.invariant-walk-loop-left
-invariant-walk-loop-left l = Walking l.book l.on l.c l.entries l.fn.own l.initial.table l.m l.left l.row l.table l.merges
+invariant-walk-loop-left l = Walking l.initial.self l.on l.c l.entries l.fn.own l.left l.row l.self
 
 abbrev pub decreases-walk-loop-left : goal.decreases-walk-loop-left
 decreases-walk-loop-left l = length l.left
