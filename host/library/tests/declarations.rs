@@ -198,7 +198,7 @@ fn the_header_declares_the_proved_functions() {
 
 fn proved_fields() -> Vec<Named> {
     let tokens = tokens_of("../../crates/replies/src/lib.rt");
-    let at = after_only(&tokens, "# [ repr ( C ) ] # [ derive ( Clone , Copy ) ] pub struct Numbers {");
+    let at = after_only(&tokens, "# [ repr ( C ) ] # [ derive ( Clone , Copy , PartialEq , Eq , Default ) ] pub struct Numbers {");
     parts(&tokens, at, ",").0.into_iter().map(rust_named).collect()
 }
 
