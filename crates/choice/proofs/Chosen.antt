@@ -12,11 +12,23 @@ use Rattle.book.specs.Record.{Key}
 use Rattle.tsconfig.specs.Mapping.{equal_key, prefix_len, longer, best_key}
 use Rattle.choice.specs.Keyed.{least_of}
 
--- an equal key is the first that is found
-pub equal_found : (s : Text) (ks : List Key) → find (λ k. pointwise eqb k.key s) ks ≡ equal_key s ks
+-- the equal key, where no key is left, and where k is the first of those that are
+
+pub equal_end : (s : Text) → equal_key s [] ≡ None
 unfolding equal_key
-equal_found s [] = refl
-equal_found s (k ∷ ks) = rw (same_as_std (pointwise eqb k.key s) k.key s refl) (by_test (same_text k.key s) (λ t. rw t) (λ f. rw f (equal_found s ks)))
+equal_end s = refl
+
+module _ (s : Text) (k : Key) (ks : List Key) (b : Bool) (q : b ≡ pointwise eqb k.key s) where
+  same : b ≡ same_text k.key s
+  same = same_as_std b k.key s q
+
+  pub equal_taken : b ≡ true → equal_key s (k ∷ ks) ≡ Some k
+  unfolding equal_key
+  equal_taken y = rw (sym same ∙ y) refl
+
+  pub equal_other : b ≡ false → equal_key s (k ∷ ks) ≡ equal_key s ks
+  unfolding equal_key
+  equal_other n = rw (sym same ∙ n) refl
 
 -- the best wildcard, where no key is left
 pub best_end : (s : Text) (b : Option Key) → best_key s b [] ≡ b

@@ -3,30 +3,42 @@
 
 ghost use Rattle.std.specs.Prelude.{◌≡◌, ◌≤◌, None, length, option_map, IfSome};
 ghost use Rattle.book.specs.Record.{keys_of};
-ghost use Rattle.record.specs.Good.{read};
+ghost use Rattle.record.specs.Read.{read};
 ghost use Rattle.record.specs.Lists.{key_of};
 ghost use Rattle.tsconfig.specs.Mapping.{equal_key, best_key};
 
 use keys::matches_at;
-use record::{Key, Record};
+use record::{Key, Place};
 use text::find_star;
 
-// The key of the record that is the specifier.
-pub fn equal_key<'a>(record: &Record<'a>, spec: &[u8]) -> Option<Key<'a>>
-    ensures value { option_map key_of result ≡ equal_key spec.now (keys_of record.now.text.now (read record.now.commands.now record.now.at)) }
-    ensures short { IfSome result (λ k. length k.name.now ≤ 512) }
+// The key from the place on that is the specifier.
+pub fn equal_key<'a, const MOST: usize>(
+    place: &Place<'a, MOST>,
+    spec: &[u8],
+) -> Option<Key<'a, MOST>>
+    ensures value { option_map key_of result ≡ equal_key spec.now (keys_of place.now.text.now (read place.now.commands.now place.now.at)) }
+    ensures short { IfSome result (λ k. length k.name.now ≤ MOST) }
 {
-    record.keys().find(|key| key.name == spec)
+    // A loop and not `find`: the check does not take a closure over keys of any bound.
+    for key in place.keys() {
+        if key.name == spec {
+            return Some(key);
+        }
+    }
+    None
 }
 
-// The key of the record that matches the specifier and has the longest prefix before its first star, of equal ones the earliest.
-pub fn best_key<'a>(record: &Record<'a>, spec: &[u8]) -> Option<Key<'a>>
-    ensures value { option_map key_of result ≡ best_key spec.now None (keys_of record.now.text.now (read record.now.commands.now record.now.at)) }
-    ensures short { IfSome result (λ k. length k.name.now ≤ 512) }
+// The key from the place on that matches the specifier and has the longest prefix before its first star, of equal ones the earliest.
+pub fn best_key<'a, const MOST: usize>(
+    place: &Place<'a, MOST>,
+    spec: &[u8],
+) -> Option<Key<'a, MOST>>
+    ensures value { option_map key_of result ≡ best_key spec.now None (keys_of place.now.text.now (read place.now.commands.now place.now.at)) }
+    ensures short { IfSome result (λ k. length k.name.now ≤ MOST) }
 {
     let mut best = None;
     let mut least = 0;
-    for key in record.keys() {
+    for key in place.keys() {
         let Some(star) = find_star(key.name) else {
             continue;
         };

@@ -15,8 +15,8 @@ use Rattle.text.proofs.Picks.{by_test}
 use Rattle.book.specs.declared.Cmd.{Cmd}
 use Rattle.book.specs.Record.{is, strings, listed, flag_of}
 use Rattle.items.proofs.Reading.{listed_is, listed_not}
-use Rattle.record.specs.Good.{read}
-use Rattle.record.specs.declared.place.Record.{Record}
+use Rattle.record.specs.Read.{read}
+use Rattle.record.specs.Lists.{Record}
 use Rattle.tsconfig.specs.Config.{Field, files, include, exclude, flag}
 use Rattle.tsconfig.specs.Parsed.{said}
 use Rattle.tsconfig.specs.Build.{adjusted, built_value}
@@ -24,7 +24,7 @@ use Rattle.tsconfig.specs.Claims.{Site}
 use Rattle.rows.specs.Rows.{Row, slot, supplier, number_of, begin_at}
 use Rattle.rows.specs.Records.{dir_of}
 use Rattle.rows.specs.Checked.{records_in}
-use Rattle.rows.specs.declared.CheckedBook.{CheckedBook}
+use Rattle.rows.specs.declared.Book.{Book}
 use Rattle.rows.proofs.Fields.{plain, map_plain, found_place, found_rec, record_says, supplier_there, site_path, site_none, site_plain}
 use Rattle.sites.specs.Sites.{site_in}
 use Rattle.sites.specs.declared.Config.{Config}
@@ -37,7 +37,7 @@ list_there text r mark item e =
     (λ f. absurd (true≢false (sym e ∙ ap is_some (listed_not text r mark item f))))
 
 module _ (config : Config) where
-  abbrev b : CheckedBook
+  abbrev b : Book
   b = config.book.now
 
   abbrev row : List ℕ

@@ -4,7 +4,7 @@
 ghost use Rattle.std.specs.Prelude.{◌≡◌, map, None};
 ghost use Rattle.text.specs.Text.{some_of};
 ghost use Rattle.book.specs.Record.{strings};
-ghost use Rattle.record.specs.Good.{read};
+ghost use Rattle.record.specs.Read.{read};
 ghost use Rattle.tsconfig.specs.Build.{adjusted};
 ghost use Rattle.tsconfig.specs.Config.{files, include, exclude};
 ghost use Rattle.tsconfig.specs.Claims.{allow_js, matched, included, excluded, named_file, claims};

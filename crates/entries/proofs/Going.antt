@@ -103,24 +103,24 @@ all_head x ys (cons p h) = p
 -- The loop over a record's extends entries: k of them are read, and these are left
 
 pub record Reading (book : CheckedBook) (dir : Text) (given : List Text) (all : List Entry) (left : List Text) (k : ℕ) : Type 0 where
-  pub rest : map (entry_at (paths_in book.paths) dir) given ≡ entries_of (take k all) ++ map (entry_at (paths_in book.paths) dir) left
-  pub inside : All (Inside (length book.paths.rows.now)) (take k all)
+  pub rest : map (entry_at (paths_in book.book.paths) dir) given ≡ entries_of (take k all) ++ map (entry_at (paths_in book.book.paths) dir) left
+  pub inside : All (Inside (length book.book.paths.rows.now)) (take k all)
   pub few : k + length left ≤ 8
   pub long : length all ≡ 8
 
 module _ (book : CheckedBook) (dir : Text) (given : List Text) where
   pub reading_start : (all : List Entry) (left : List Text) → left ≡ given → length given ≤ 8 → length all ≡ 8 → Reading book dir given all left 0
-  reading_start all left e h l = record { rest = ap (map (entry_at (paths_in book.paths) dir)) (sym e); inside = nil; few = omega (arith, ap length e, h); long = l }
+  reading_start all left e h l = record { rest = ap (map (entry_at (paths_in book.book.paths) dir)) (sym e); inside = nil; few = omega (arith, ap length e, h); long = l }
 
   module _ (all : List Entry) (left : List Text) (k : ℕ) (p : Reading book dir given all left k) where
-    pub reading_end : left ≡ [] → entries_of (take k all) ≡ map (entry_at (paths_in book.paths) dir) given
-    reading_end e = sym (p.rest ∙ ap (λ (l : List Text). entries_of (take k all) ++ map (entry_at (paths_in book.paths) dir) l) e ∙ append-nil (entries_of (take k all)))
+    pub reading_end : left ≡ [] → entries_of (take k all) ≡ map (entry_at (paths_in book.book.paths) dir) given
+    reading_end e = sym (p.rest ∙ ap (λ (l : List Text). entries_of (take k all) ++ map (entry_at (paths_in book.book.paths) dir) l) e ∙ append-nil (entries_of (take k all)))
 
     module _ {s : Text} {next : List Text} (e : left ≡ s ∷ next) where
       pub reading_room : k < 8
       reading_room = omega (arith, p.few, ap length e)
 
-      module _ (v : Entry) (h : entry_of v ≡ entry_at (paths_in book.paths) dir s) where
+      module _ (v : Entry) (h : entry_of v ≡ entry_at (paths_in book.book.paths) dir s) where
         more : take (k + 1) (set all k v) ≡ take k all ++ (v ∷ [])
         more = ap (λ (j : ℕ). take j (set all k v)) (add-one k) ∙ take-suc-set all k v (omega (arith, p.long, reading_room))
 
@@ -128,11 +128,11 @@ module _ (book : CheckedBook) (dir : Text) (given : List Text) where
         reading_on = record {
           rest =
               p.rest
-              ∙ ap (λ (l : List Text). entries_of (take k all) ++ map (entry_at (paths_in book.paths) dir) l) e
-              ∙ ap (λ (x : line.Entry). entries_of (take k all) ++ (x ∷ map (entry_at (paths_in book.paths) dir) next)) (sym h)
-              ∙ sym (append_assoc (entries_of (take k all)) (entry_of v ∷ []) (map (entry_at (paths_in book.paths) dir) next))
-              ∙ ap (◌++ map (entry_at (paths_in book.paths) dir) next) (sym (ap entries_of more ∙ map-append entry_of (take k all) (v ∷ [])));
-          inside = subst (All (Inside (length book.paths.rows.now))) (sym more) (all_join (take k all) (v ∷ []) p.inside (cons (leads_inside book.paths dir s v h) nil));
+              ∙ ap (λ (l : List Text). entries_of (take k all) ++ map (entry_at (paths_in book.book.paths) dir) l) e
+              ∙ ap (λ (x : line.Entry). entries_of (take k all) ++ (x ∷ map (entry_at (paths_in book.book.paths) dir) next)) (sym h)
+              ∙ sym (append_assoc (entries_of (take k all)) (entry_of v ∷ []) (map (entry_at (paths_in book.book.paths) dir) next))
+              ∙ ap (◌++ map (entry_at (paths_in book.book.paths) dir) next) (sym (ap entries_of more ∙ map-append entry_of (take k all) (v ∷ [])));
+          inside = subst (All (Inside (length book.book.paths.rows.now))) (sym more) (all_join (take k all) (v ∷ []) p.inside (cons (leads_inside book.book.paths dir s v h) nil));
           few = omega (arith, p.few, ap length e);
           long = length-set all k v ∙ p.long;
         }

@@ -5,9 +5,9 @@ ghost use Rattle.std.specs.Prelude.{◌≡◌, [], ◌∷◌, cond, ◌+◌, ◌
 ghost use Rattle.ends.specs.Ends.{parent_of};
 ghost use Rattle.join.specs.Join.{normalize_with, push_of};
 ghost use Rattle.book.specs.Find.{find, locate as locate_of};
+ghost use Rattle.book.specs.Index.{index_at, path_in};
 ghost use Rattle.book.specs.Refusals.{number_of};
 ghost use Rattle.records.specs.Tables.{paths_in};
-ghost use Rattle.tsconfig_resolver.specs.Find.{path_at};
 ghost use Rattle.tsconfig_resolver.specs.Load.{unread as unread_of};
 ghost use Rattle.rows.specs.Checked.{records_in};
 ghost use Rattle.entries.specs.Entries.{is_beside, entry_of, entries_of, entry_at, EntriesOf};
@@ -74,22 +74,21 @@ pub fn find_meant(paths: &PathTable<'_>, dir: &[u8], s: &[u8]) -> Option<usize>
 }
 
 // The directory of the record c, by its row of the table of paths: its commands are not read for it.
-pub fn record_dir<'a>(book: &CheckedBook<'a>, c: usize) -> &'a [u8]
-    requires { c < length book.now.paths.rows.now }
-    ensures value { result.now ≡ parent_of (path_at (records_in book.now) c) }
-    ensures short { length result.now ≤ 512 }
+pub fn record_dir<'a>(paths: &PathTable<'a>, c: usize) -> &'a [u8]
+    requires { c < length paths.now.rows.now }
+    ensures { result.now ≡ parent_of (path_in paths.now.text.now (index_at paths.now.rows.now c)) }
 {
-    parent(book.paths.path(c))
+    parent(paths.path(c))
 }
 
 // What an extends entry that stands in a directory leads to.
-fn read_entry(book: &CheckedBook<'_>, dir: &[u8], s: &[u8]) -> Entry
+fn read_entry(checked: &CheckedBook<'_>, dir: &[u8], s: &[u8]) -> Entry
     requires { (length dir.now ≤ 512) × (length s.now ≤ 512) }
-    ensures { entry_of result ≡ entry_at (paths_in book.now.paths) dir.now s.now }
+    ensures { entry_of result ≡ entry_at (paths_in checked.now.book.paths) dir.now s.now }
 {
     match s {
         [] => Entry::Empty,
-        [SLASH | DOT, ..] => match find_meant(&book.paths, dir, s) {
+        [SLASH | DOT, ..] => match find_meant(&checked.book.paths, dir, s) {
             Some(i) => Entry::Leads(i as u8),
             None => Entry::Missing,
         },
@@ -98,16 +97,17 @@ fn read_entry(book: &CheckedBook<'_>, dir: &[u8], s: &[u8]) -> Entry
 }
 
 // The extends entries of the record c.
-fn read_entries(book: &CheckedBook<'_>, c: usize) -> Entries
-    requires { c < length book.now.paths.rows.now }
-    ensures { EntriesOf (records_in book.now) c result }
+fn read_entries(checked: &CheckedBook<'_>, c: usize) -> Entries
+    requires { c < length checked.now.book.paths.rows.now }
+    ensures { EntriesOf (records_in checked.now.book) c result }
 {
-    let dir = record_dir(book, c);
+    let book = &checked.book;
+    let dir = record_dir(&book.paths, c);
     let mut all = [Entry::Empty; 8];
     // Counted as they are read: how many there are stands beside an array of fixed length.
     let mut count = 0;
     for s in book.record_at(c).strings(EXTENDS) {
-        all[count] = read_entry(book, dir, s);
+        all[count] = read_entry(checked, dir, s);
         count += 1;
     }
     Entries { all, count }
@@ -128,15 +128,16 @@ fn unread(entries: &[Entry]) -> Option<Fault>
 }
 
 // Opens the record c: its extends entries, none of which is refused as it is read, and its own row.
-pub fn open_record(book: &CheckedBook<'_>, c: usize) -> Result<Opened, Refusal>
-    requires { c < length book.now.paths.rows.now }
-    ensures ok { IfOk result (OpenedAs (records_in book.now) c) }
-    ensures err { IfErr result (RefusedAs (records_in book.now) c) }
+pub fn open_record(checked: &CheckedBook<'_>, c: usize) -> Result<Opened, Refusal>
+    requires { c < length checked.now.book.paths.rows.now }
+    ensures ok { IfOk result (OpenedAs (records_in checked.now.book) c) }
+    ensures err { IfErr result (RefusedAs (records_in checked.now.book) c) }
 {
-    let entries = read_entries(book, c);
+    let entries = read_entries(checked, c);
     if let Some(fault) = unread(entries.as_slice()) {
         return Err(Refusal { fault, place: c });
     }
+    let book = &checked.book;
     let row = own_row(book.commands, book.paths.rows[c].begin, c as u8);
     Ok(Opened { entries, row })
 }

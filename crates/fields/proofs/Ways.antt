@@ -7,8 +7,8 @@ use Rattle.book.specs.declared.Cmd.{Cmd}
 use Rattle.book.specs.Command.{key, root_dir, base_url}
 use Rattle.book.specs.Rules.{text_of}
 use Rattle.book.specs.Record.{Key, is, only, first_of, strings, single, keys_of}
-use Rattle.record.specs.Good.{read}
-use Rattle.record.specs.declared.place.Record.{Record}
+use Rattle.record.specs.Read.{read}
+use Rattle.record.specs.Lists.{Record}
 use Rattle.tsconfig.specs.Build.{adjusted}
 use Rattle.tsconfig.specs.Listing.{row, rows, items, mapping, key_rows, if_named}
 use Rattle.lines.specs.Lines.{ended, dir_of, built_key, built_place, built_strings, built_roots, built_keys}

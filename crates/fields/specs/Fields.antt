@@ -3,8 +3,8 @@ use Rattle.std.specs.Prelude.{ℕ, [], Option, Some, None, option_map}
 use Rattle.text.specs.Bytes.{Text, bytes}
 use Rattle.book.specs.Command.{base_url}
 use Rattle.book.specs.Record.{single}
-use Rattle.record.specs.Good.{read}
-use Rattle.record.specs.declared.place.Record.{Record}
+use Rattle.record.specs.Read.{read}
+use Rattle.record.specs.Lists.{Record}
 use Rattle.tsconfig.specs.Build.{adjusted}
 use Rattle.tsconfig.specs.Listing.{row, items, mapping, if_named}
 use Rattle.lines.specs.Lines.{dir_of, built_place, built_strings, built_roots, built_keys}

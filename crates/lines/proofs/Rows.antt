@@ -47,23 +47,23 @@ keys_turn dir base {l} {k} {ks} e =
 
 -- what a call of next gave is the first of what was left
 
-module _ {s : Strings} {r : Option (Bor Text)} {t : Strings} (n : NextString s r t) where
+module _ {m : ℕ} {s : Strings m} {r : Option (Bor Text)} {t : Strings m} (n : NextString m s r t) where
   pub first_string : {x : Bor Text} → r ≡ Some x → strings_left s ≡ x.now ∷ strings_left t
   first_string {x} e = subst (λ (o : Option (Bor Text)). YieldsFirstRef strings_left s o t) e n.first
 
   pub last_string : r ≡ None → strings_left s ≡ []
   last_string e = (subst (λ (o : Option (Bor Text)). YieldsFirstRef strings_left s o t) e n.first).0
 
-module _ {s : Targets} {r : Option (Bor Text)} {t : Targets} (n : NextTarget s r t) where
+module _ {m : ℕ} {s : Targets m} {r : Option (Bor Text)} {t : Targets m} (n : NextTarget m s r t) where
   pub first_target : {x : Bor Text} → r ≡ Some x → targets_left s ≡ x.now ∷ targets_left t
   first_target {x} e = subst (λ (o : Option (Bor Text)). YieldsFirstRef targets_left s o t) e n.first
 
   pub last_target : r ≡ None → targets_left s ≡ []
   last_target e = (subst (λ (o : Option (Bor Text)). YieldsFirstRef targets_left s o t) e n.first).0
 
-module _ {s : Keys} {r : Option lists.Key} {t : Keys} (n : NextKey s r t) where
-  pub first_key : {x : lists.Key} → r ≡ Some x → keys_left s ≡ key_of x ∷ keys_left t
-  first_key {x} e = subst (λ (o : Option lists.Key). YieldsFirstBy key_of keys_left s o t) e n.first
+module _ {m : ℕ} {s : Keys m} {r : Option (lists.Key m)} {t : Keys m} (n : NextKey m s r t) where
+  pub first_key : {x : lists.Key m} → r ≡ Some x → keys_left s ≡ key_of x ∷ keys_left t
+  first_key {x} e = subst (λ (o : Option (lists.Key m)). YieldsFirstBy key_of keys_left s o t) e n.first
 
   pub last_key : r ≡ None → keys_left s ≡ []
-  last_key e = (subst (λ (o : Option lists.Key). YieldsFirstBy key_of keys_left s o t) e n.first).0
+  last_key e = (subst (λ (o : Option (lists.Key m)). YieldsFirstBy key_of keys_left s o t) e n.first).0

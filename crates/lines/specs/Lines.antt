@@ -4,8 +4,8 @@ use Rattle.text.specs.Bytes.{Text, bytes}
 use Rattle.ends.specs.Ends.{parent_of}
 use Rattle.book.specs.Command.{root_dir}
 use Rattle.book.specs.Record.{Key, strings, keys_of, record_path_of}
-use Rattle.record.specs.Good.{read}
-use Rattle.record.specs.declared.place.Record.{Record}
+use Rattle.record.specs.Read.{read}
+use Rattle.record.specs.Lists.{Record}
 use Rattle.tsconfig.specs.Parsed.{placed}
 use Rattle.tsconfig.specs.Build.{substituted, adjusted}
 use Rattle.tsconfig.specs.Listing.{row, rows}

@@ -7,7 +7,7 @@ ghost use Rattle.emit.specs.Emit.{Room};
 ghost use Rattle.emit.specs.Output.{Puts};
 ghost use Rattle.book.specs.Command as command;
 ghost use Rattle.book.specs.Record.{strings};
-ghost use Rattle.record.specs.Good.{read};
+ghost use Rattle.record.specs.Read.{read};
 ghost use Rattle.record.specs.Lists.{key_of};
 ghost use Rattle.tsconfig.specs.Build.{adjusted};
 ghost use Rattle.tsconfig.specs.Listing.{row, rows, key_rows};
@@ -15,7 +15,7 @@ ghost use Rattle.lines.specs.Lines.{ended, valued, built_place, built_strings, b
 
 use book::{REFERENCE, ROOT_DIR};
 use emit::Output;
-use record::{Key, Record};
+use record::{Key, Place, Record};
 use values::{adjust, build_place};
 
 // The length of a buffer that is long enough for most values.
@@ -133,12 +133,12 @@ pub fn put_strings(out: &mut Output, record: &Record, op: u8, name: &[u8], dir: 
     }
 }
 
-// Writes the record's references as they are given.
-pub fn put_references(out: &mut Output, record: &Record)
-    requires { Room out.old.at (rows (bytes "reference") (strings record.now.text.now command.reference (read record.now.commands.now record.now.at))) }
-    ensures { Puts (rows (bytes "reference") (strings record.now.text.now command.reference (read record.now.commands.now record.now.at))) out.old out.new }
+// Writes the references from the place on as they are given.
+pub fn put_references<const MOST: usize>(out: &mut Output, place: &Place<MOST>)
+    requires { Room out.old.at (rows (bytes "reference") (strings place.now.text.now command.reference (read place.now.commands.now place.now.at))) }
+    ensures { Puts (rows (bytes "reference") (strings place.now.text.now command.reference (read place.now.commands.now place.now.at))) out.old out.new }
 {
-    for s in record.strings(REFERENCE) {
+    for s in place.strings(REFERENCE) {
         put_row(out, b"reference", s);
     }
 }
@@ -156,7 +156,7 @@ pub fn put_root_rows(out: &mut Output, record: &Record, dir: &[u8])
 }
 
 // Writes a key and its targets.
-fn put_key(out: &mut Output, key: &Key, dir: &[u8], base: &[u8])
+fn put_key(out: &mut Output, key: &Key<512>, dir: &[u8], base: &[u8])
     requires room { Room out.old.at (key_text dir.now base.now (key_of key.now)) }
     requires dir { length dir.now ≤ 512 }
     requires base { length base.now ≤ 1600 }

@@ -8,17 +8,18 @@ use Rattle.emit.proofs.Outputs.{Left, left_all, left_room, left_step, left_end, 
 use Rattle.ends.specs.Ends.{parent_of}
 use Rattle.book.specs.Command as command
 use Rattle.book.specs.Record.{strings, record_path_of}
-use Rattle.record.specs.Good.{read}
-use Rattle.record.specs.declared.place.Record.{Record}
+use Rattle.record.specs.Read.{read}
+use Rattle.record.specs.Lists.{Record}
 use Rattle.tsconfig.specs.Config as config
 use Rattle.tsconfig.specs.Build.{Settings}
 use Rattle.tsconfig.specs.Listing.{row, rows, items, mapping, if_named, listing}
 use Rattle.tsconfig_resolver.specs.Find.{record_at}
 use Rattle.rows.specs.Rows.{own_place, number_of, site_of, Row, begin_at}
 use Rattle.rows.specs.Checked.{records_in}
-use Rattle.rows.specs.declared.CheckedBook.{CheckedBook}
+use Rattle.rows.specs.declared.Book.{Book}
 use Rattle.fields.specs.Fields.{list_at, roots_at, url_at, place_at, mapping_at}
-use Rattle.options.specs.Options.{options_part}
+use Rattle.options.specs.Options.{options_from, options_part}
+use Rattle.options.proofs.Suppliers.{options_said}
 use Rattle.sites.specs.Configs.{Supplied}
 use Rattle.sites.specs.Sites.{record_in, settings_in}
 use Rattle.sites.specs.declared.Config.{Config}
@@ -34,7 +35,7 @@ turn : (all rest x y : Text) (o u : Output) → Room o.at all → Left all o res
 turn all rest x y o u h l e = record { room = left_room all o rest u l x y e h; left = λ v p. left_step all o rest u l x y v e p }
 
 module _ (c : Config) (o : Output) where
-  abbrev b : CheckedBook
+  abbrev b : Book
   b = c.book.now
 
   abbrev r : List ℕ
@@ -96,8 +97,8 @@ module _ (c : Config) (o : Output) where
         pub declarations_turn : Turn (places_part s) o (place_at (bytes "declarationDir") dir command.declaration_dir y) (options_part s) v
         declarations_turn = turn _ _ _ _ _ _ a (out_turn.left _ q) (ap (λ t. t ++ options_part s) (declarations_part b r c.named dir c.place _ refl y g))
 
-        pub options_turn : (w : Output) → Puts (place_at (bytes "declarationDir") dir command.declaration_dir y) v w → Turn (places_part s) o (options_part s) [] w
-        options_turn w k = turn _ _ _ _ _ _ a (declarations_turn.left w k) (sym (append-nil _))
+        pub options_turn : (w : Output) → Puts (place_at (bytes "declarationDir") dir command.declaration_dir y) v w → Turn (places_part s) o (options_from b.commands.now b.paths.rows.now r b.paths.text.now) [] w
+        options_turn w k = turn _ _ _ _ _ _ a (declarations_turn.left w k) (sym (options_said b r c.named) ∙ sym (append-nil _))
 
   -- the whole
 

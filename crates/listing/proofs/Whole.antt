@@ -17,8 +17,8 @@ use Rattle.book.specs.declared.Cmd.{Cmd}
 use Rattle.book.specs.Command as command
 use Rattle.book.specs.Record as fields
 use Rattle.book.specs.Record.{is, strings, single, listed, keys_of}
-use Rattle.record.specs.Good.{read}
-use Rattle.record.specs.declared.place.Record.{Record}
+use Rattle.record.specs.Read.{read}
+use Rattle.record.specs.Lists.{Record}
 use Rattle.tsconfig.specs.Config as config
 use Rattle.tsconfig.specs.Config.{Field}
 use Rattle.tsconfig.specs.Parsed.{said, placed, placed_value}
@@ -29,13 +29,13 @@ use Rattle.tsconfig_resolver.specs.Find.{record_at}
 use Rattle.rows.specs.Rows.{slot, own_place, supplier, number_of, site_of, Row, begin_at}
 use Rattle.rows.specs.Records.{dir_of}
 use Rattle.rows.specs.Checked.{records_in}
-use Rattle.rows.specs.declared.CheckedBook.{CheckedBook}
-use Rattle.rows.proofs.Fields.{plain, found_place, found_rec, found_none, record_references, record_says, supplier_there, place_there, place_good, site_path}
+use Rattle.rows.specs.declared.Book.{Book}
+use Rattle.rows.proofs.Fields.{plain, found_place, found_rec, found_none, record_references, record_says, supplier_there, place_there, place_short, site_path}
 use Rattle.lines.specs.Lines.{built_place}
 use Rattle.fields.specs.Fields.{list_at, roots_at, url_at, place_at, mapping_at}
-use Rattle.options.specs.Options.{options_part}
+use Rattle.options.specs.Options.{text_at, options_part}
 use Rattle.sites.specs.Configs.{Supplied}
-use Rattle.options.proofs.Suppliers.{config_in, none_at, some_at, plain_at, text_named}
+use Rattle.options.proofs.Suppliers.{config_in, none_at, some_at, plain_at, text_said, options_said}
 use Rattle.listing.specs.Parts.{lists_part, places_part, base_part}
 use Rattle.listing.proofs.Sizes.{Fits, row_length, references_size, list_size, roots_size, url_size, place_size, mapping_size, text_size, flag_line}
 use Rattle.emit.specs.Emit.{Room}
@@ -81,7 +81,7 @@ by_parts references c =
     let z = base_part references c in
     sym (append_assoc a (b ++ (d ++ e)) z ∙ ap (λ (t : Text). a ++ t) (append_assoc b (d ++ e) z ∙ ap (λ (t : Text). b ++ t) (append_assoc d e z)))
 
-module _ (b : CheckedBook) (row : List ℕ) (w : Row (records_in b) row) where
+module _ (b : Book) (row : List ℕ) (w : Row (records_in b) row) where
   said_there : (f : Field) (r : Record) → Supplied b row (slot f) (Some r) → is_some (said r.text.now (read r.commands.now r.at) f) ≡ true
   said_there f r s =
       let n = found_place b.paths.rows.now row (slot f) r.at s.at in
@@ -178,15 +178,18 @@ module _ (b : CheckedBook) (row : List ℕ) (w : Row (records_in b) row) where
 
   -- How long it may be: there is always room to count it
 
-  supplied_by : (k : ℕ) → k < 28 → (x : Option ℕ) → x ≡ begin_at b.paths.rows.now row k → Option Record
-  supplied_by k l None e = None
-  supplied_by k l (Some rec) e =
-      Some (record {
+  abbrev supplier_at : (k : ℕ) → k < 28 → (rec : ℕ) → Some rec ≡ begin_at b.paths.rows.now row k → Record
+  supplier_at k l rec e =
+      record {
         commands = b.commands;
         text = b.paths.text;
         at = rec;
-        good = place_good b.commands.now b.paths.text.now b.paths.rows.now b.records row k rec (place_there b.commands.now b.paths.text.now b.paths.rows.now b.records row w k l) e;
-      })
+        short = place_short b.commands.now b.paths.text.now b.paths.rows.now b.records row k rec (place_there b.commands.now b.paths.text.now b.paths.rows.now b.records row w k l) e;
+      }
+
+  supplied_by : (k : ℕ) → k < 28 → (x : Option ℕ) → x ≡ begin_at b.paths.rows.now row k → Option Record
+  supplied_by k l None e = None
+  supplied_by k l (Some rec) e = Some (supplier_at k l rec e)
 
   is_supplied : (k : ℕ) (l : k < 28) (x : Option ℕ) (e : x ≡ begin_at b.paths.rows.now row k) → Supplied b row k (supplied_by k l x e)
   unfolding supplied_by
@@ -200,23 +203,25 @@ module _ (b : CheckedBook) (row : List ℕ) (w : Row (records_in b) row) where
   unfolding supplies
   is_there k l = is_supplied k l (begin_at b.paths.rows.now row k) refl
 
-fits : (b : CheckedBook) (row : List ℕ) (k : ℕ) (x : Option Record) → Supplied b row k x → IfSome x Fits
+fits : (b : Book) (row : List ℕ) (k : ℕ) (x : Option Record) → Supplied b row k x → IfSome x Fits
 fits b row k None s = tt
 fits b row k (Some r) s = let ce : r.commands.now ≡ b.commands.now = s.commands in omega (arith, ap length ce, b.records.small)
 
-module _ (b : CheckedBook) (row : List ℕ) (w : Row (records_in b) row) where
+module _ (b : Book) (row : List ℕ) (w : Row (records_in b) row) where
+  text_at_size : (id : ℕ) → 19 + id < 28 → (x : Option ℕ) → x ≡ begin_at b.paths.rows.now row (19 + id) → length (text_at b.commands.now b.paths.text.now id x) ≤ 132000000
+  unfolding text_at
+  text_at_size id l None e = omega arith
+  text_at_size id l (Some rec) e = text_size id (supplier_at b row w (19 + id) l rec e) b.records.small
+
   texts_size : (k id : ℕ) → id + k ≤ 7 → length (texts (config_in b row) id k) ≤ k * 132000000
   unfolding texts
   texts_size zero id h = omega arith
   texts_size (suc k) id h =
-      let l : 19 + id < 28 = omega (arith, h) in
-      let x = supplies b row w (19 + id) l in
-      let s = is_there b row w (19 + id) l in
       omega (
         arith,
         length-append (if_named (text_row id) ((config_in b row).named (config.text id))) (texts (config_in b row) (suc id) k),
-        ap length (text_named b row w id (omega (arith, h)) x s),
-        text_size id x (fits b row (19 + id) x s),
+        ap length (text_said b row w id (omega (arith, h)) (begin_at b.paths.rows.now row (19 + id)) refl),
+        text_at_size id (omega (arith, h)) (begin_at b.paths.rows.now row (19 + id)) refl,
         texts_size k (suc id) (omega (arith, h)),
       )
 

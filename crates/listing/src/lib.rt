@@ -43,7 +43,7 @@ fn put_places(out: &mut Output, config: &Config)
     put_roots(out, config.supplier(places::ROOT_DIRS), dir);
     put_place(out, out_dir, OUT_DIR, b"outDir", dir);
     put_place(out, declarations, DECLARATION_DIR, b"declarationDir", dir);
-    put_options(out, config);
+    put_options(out, config.book.commands, &config.book.paths, config.row);
 }
 
 // Writes the whole output of a build, as far as the output reaches, and counts all of it.

@@ -141,7 +141,7 @@ last_first es j d h =
 
 -- what is left of the entries is walked over as all of them are
 pub record Walking (was : Loads) (on : List Bool) (c : ℕ) (es : List Entry) (x : List ℕ) (left : List Entry) (row : List ℕ) (now : Loads) : Type 0 where
-  pub book : now.book ≡ was.book
+  pub book : now.checked ≡ was.checked
   pub same : walks (records_of was) on c es (config_of (records_of was) x) (state was) ≡ walks (records_of now) on c left (config_of (records_of now) row) (state now)
   pub pre : WalkPre now on c left row
   pub few : length left + reach on now ≤ length es + reach on was
@@ -171,7 +171,7 @@ module _ (was : Loads) (on : List Bool) (c : ℕ) (es : List Entry) (x : List �
         pub bring_next : BringPre now on v
         bring_next = record {
           table = w.pre.table;
-          inside = (all_head (get_or left j d) [] (all_after (take j left) (get_or left j d ∷ []) (subst (All (Inside (length now.book.now.paths.rows.now))) (last_split left j d h) w.pre.entries))).inside v (sym i ∙ l);
+          inside = (all_head (get_or left j d) [] (all_after (take j left) (get_or left j d ∷ []) (subst (All (Inside (length now.checked.now.book.paths.rows.now))) (last_split left j d h) w.pre.entries))).inside v (sym i ∙ l);
           few = omega (arith, w.pre.few);
         }
 
@@ -180,19 +180,19 @@ module _ (was : Loads) (on : List Bool) (c : ℕ) (es : List Entry) (x : List �
             pub brought : Went now on v (reach on now) (recall ((state now).table v) (load (seen (records_of now)) (on_of on) v) (state now)) new far
             brought = subst (ToldAs now on v (reach on now) (recall ((state now).table v) (load (seen (records_of now)) (on_of on) v) (state now)) new) k q.told
 
-            pub walking_on : (y : List ℕ) → y ≡ merged_row row far → Walking was on c es x (take j left) y (record { book = new.book; table = new.table; merges = new.merges + 1 })
+            pub walking_on : (y : List ℕ) → y ≡ merged_row row far → Walking was on c es x (take j left) y (record { checked = new.checked; table = new.table; merges = new.merges + 1 })
             unfolding next
-            walking_on y f = subst (λ b. Walking was on c es x (take j left) y (record { book = b; table = new.table; merges = new.merges + 1 })) (sym brought.book) (record {
+            walking_on y f = subst (λ b. Walking was on c es x (take j left) y (record { checked = b; table = new.table; merges = new.merges + 1 })) (sym brought.book) (record {
               book = w.book;
               same =
                   leads_on
                   ∙ ap next brought.answer
-                  ∙ ap₂ (walks (records_of now) on c (take j left)) (sym (ap (config_of (records_of now)) f ∙ merge_config (records_of now) now.book.now.records.few row far w.pre.row brought.row)) (sym (state_counted (records_of now) new.table new.merges));
+                  ∙ ap₂ (walks (records_of now) on c (take j left)) (sym (ap (config_of (records_of now)) f ∙ merge_config (records_of now) now.checked.now.book.records.few row far w.pre.row brought.row)) (sym (state_counted (records_of now) new.table new.merges));
               pre = record {
                 table = brought.table;
-                entries = all_before (take j left) (get_or left j d ∷ []) (subst (All (Inside (length now.book.now.paths.rows.now))) (last_split left j d h) w.pre.entries);
-                row = subst (Row (records_of now)) (sym f) (merge_is_row (records_of now) now.book.now.records.few row far w.pre.row brought.row);
-                own = ap row_number f ∙ merge_number (records_of now) now.book.now.records.few row far w.pre.row brought.row ∙ w.pre.own;
+                entries = all_before (take j left) (get_or left j d ∷ []) (subst (All (Inside (length now.checked.now.book.paths.rows.now))) (last_split left j d h) w.pre.entries);
+                row = subst (Row (records_of now)) (sym f) (merge_is_row (records_of now) now.checked.now.book.records.few row far w.pre.row brought.row);
+                own = ap row_number f ∙ merge_number (records_of now) now.checked.now.book.records.few row far w.pre.row brought.row ∙ w.pre.own;
                 few = omega (arith, w.pre.few, brought.few, h, length-take j left);
               };
               few = omega (arith, w.few, brought.few, h, length-take j left);
@@ -240,7 +240,7 @@ module _ (was : Loads) (on : List Bool) (c : ℕ) (inside : c < length (records_
           walked : Went was (set on c true) c (length es + reach (set on c true) was) (walks rs (set on c true) c es (config_of rs o.row) (state was)) now row
           walked = subst (ToldAs was (set on c true) c (length es + reach (set on c true) was) (walks rs (set on c true) c es (config_of rs o.row) (state was)) now) f q.told
 
-          pub load_done : length now.table ≡ 64 → Went was on c (reach on was) (load (seen rs) (on_of on) c (state was)) (record { book = now.book; table = set now.table c (Some row); merges = now.merges }) row
+          pub load_done : length now.table ≡ 64 → Went was on c (reach on was) (load (seen rs) (on_of on) c (state was)) (record { checked = now.checked; table = set now.table c (Some row); merges = now.merges }) row
           load_done n =
               let k : c < length now.table = omega (arith, n, lt) in
               record {
@@ -259,8 +259,8 @@ module _ (was : Loads) (on : List Bool) (c : ℕ) (inside : c < length (records_
 pub walk_start : (l : Loads) (on : List Bool) (c : ℕ) → length on ≡ 64 → LoadPre l on c → get_or on c false ≡ false → (o : Opened) → OpenedAs (records_of l) c o → (es : List Entry) → es ≡ take o.entries.count o.entries.all → WalkPre l (set on c true) c es o.row
 walk_start l on c long p off o q es is = record {
   table = p.table;
-  entries = subst (All (Inside (length l.book.now.paths.rows.now))) (sym is) (subst (λ (n : ℕ). All (Inside n) (take o.entries.count o.entries.all)) l.book.now.listed.size q.entries.inside);
+  entries = subst (All (Inside (length l.checked.now.book.paths.rows.now))) (sym is) (subst (λ (n : ℕ). All (Inside n) (take o.entries.count o.entries.all)) l.checked.now.listed.size q.entries.inside);
   row = q.row;
   own = q.own;
-  few = omega (arith, p.few, ap length is, length-take o.entries.count o.entries.all, o.entries.few, pending_falls on l.table c (omega (arith, p.inside, few_records l.book.now)) long off p.fresh);
+  few = omega (arith, p.few, ap length is, length-take o.entries.count o.entries.all, o.entries.few, pending_falls on l.table c (omega (arith, p.inside, few_records l.checked.now)) long off p.fresh);
 }

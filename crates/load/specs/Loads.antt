@@ -41,7 +41,7 @@ pub record Table (rs : List Parsed) (table : List (Option (List ℕ))) : Type 0 
 
 -- the records of the book that is loaded from
 abbrev pub records_of : Loads → List Parsed
-records_of l = records_in l.book.now
+records_of l = records_in l.checked.now.book
 
 -- what is loaded, as the definition holds it
 abbrev pub state : Loads → Store
@@ -57,7 +57,7 @@ Gives = Answer (Gave SuppliedValue (Supplied Text))
 
 -- a load that gives the row of the record c, and what is loaded after it: of the same book, and with `most` merges within reach at most
 pub record Went (was : Loads) (on : List Bool) (c most : ℕ) (a : Gives) (now : Loads) (x : List ℕ) : Type 0 where
-  pub book : now.book ≡ was.book
+  pub book : now.checked ≡ was.checked
   pub answer : a ≡ done (config_of (records_of was) x) (state_of (records_of was) now.table now.merges)
   pub row : Row (records_of was) x
   pub own : number_of x ≡ c
@@ -85,14 +85,14 @@ walks rs on c es x s = walk (load (seen rs) (on_of on)) c (reverse (entries_of e
 -- what the load of the record c asks
 pub record LoadPre (l : Loads) (on : List Bool) (c : ℕ) : Type 0 where
   pub table : Table (records_of l) l.table
-  pub inside : c < length l.book.now.paths.rows.now
+  pub inside : c < length l.checked.now.book.paths.rows.now
   pub fresh : held l.table c ≡ None
   pub few : reach on l ≤ 65536
 
 -- what the walk over entries of the record c asks
 pub record WalkPre (l : Loads) (on : List Bool) (c : ℕ) (es : List Entry) (x : List ℕ) : Type 0 where
   pub table : Table (records_of l) l.table
-  pub entries : All (Inside (length l.book.now.paths.rows.now)) es
+  pub entries : All (Inside (length l.checked.now.book.paths.rows.now)) es
   pub row : Row (records_of l) x
   pub own : number_of x ≡ c
   pub few : length es + reach on l ≤ 65536
@@ -100,5 +100,5 @@ pub record WalkPre (l : Loads) (on : List Bool) (c : ℕ) (es : List Entry) (x :
 -- what bringing the record v asks
 pub record BringPre (l : Loads) (on : List Bool) (v : ℕ) : Type 0 where
   pub table : Table (records_of l) l.table
-  pub inside : v < length l.book.now.paths.rows.now
+  pub inside : v < length l.checked.now.book.paths.rows.now
   pub few : reach on l ≤ 65536

@@ -18,7 +18,7 @@ pub type Table = [Option<[u8; ROW]>; MOST_RECORDS];
 // What is loaded of a book so far: the rows of its records, and how many merges are made.
 #[derive(Drop)]
 pub struct Loads<'a> {
-    pub book: &'a CheckedBook<'a>,
+    pub checked: &'a CheckedBook<'a>,
     pub table: Table,
     pub merges: usize,
 }
@@ -49,7 +49,7 @@ impl Loads<'_> {
                 place: c,
             });
         }
-        let Opened { entries, row } = open_record(self.book, c)?;
+        let Opened { entries, row } = open_record(self.checked, c)?;
         let mut longer = on;
         longer[c] = true;
         let merged = self.walk(longer, c, entries.as_slice(), row)?;

@@ -1,6 +1,6 @@
 -- What the keys of a record give for a specifier, once their targets are built, and how much that is. Assumes nothing.
 use Rattle.std.proofs.Common.{◌≡◌, ℕ, ◌-◌, ◌*◌, ◌≤◌, Bool, true, false, ◌&&◌, cond, List, [], ◌∷◌, map, length, drop, Option, Some, None, IfSome, option_map, refl, sym, ap, subst, ◌∙◌, true≢false, length-take, length-drop, arith}
-use Rattle.record.proofs.Good.{all_good, targets_short}
+use Rattle.record.proofs.Short.{targets_short}
 use Rattle.std.proofs.lemmas.Bool.{and_parts}
 use Rattle.std.specs.Prelude.{unwrap_or}
 use lib.ListN.{length-map}
@@ -12,7 +12,7 @@ use Rattle.book.specs.declared.Cmd.{Cmd}
 use Rattle.book.specs.Command.{key}
 use Rattle.book.specs.Record.{Key, is, keys_of}
 use Rattle.book.specs.Sound.{All, nil, cons, Good}
-use Rattle.record.specs.Good.{good_command}
+use Rattle.record.specs.Read.{is_short}
 use Rattle.tsconfig.specs.Build.{adjusted}
 use Rattle.tsconfig.specs.Laid.{laid}
 use Rattle.tsconfig.specs.Mapping.{equal_key, longer, best_key, filled, from_best, from_equal, from_paths}
@@ -100,20 +100,21 @@ module _ (text : Text) (n : ℕ) where
     pub short : EachShort k.targets
     pub few : length k.targets ≤ n
 
-  keys_few : (r : List Cmd) → All (Good text) r → length r ≤ n → All FewKey (keys_of text r)
-  unfolding keys_of
-  keys_few [] nil l = nil
-  keys_few (c ∷ r) (cons g h) l =
+  keys_few : (r : List Cmd) → each_of (is_short 512 text) r ≡ true → length r ≤ n → All FewKey (keys_of text r)
+  unfolding keys_of each_of
+  keys_few [] h l = nil
+  keys_few (c ∷ r) h l =
+      let more = (and_parts (is_short 512 text c) (each_of (is_short 512 text) r) h).1 in
       by_test (is key c)
-      (λ t. rw t (cons (record { short = targets_short text r h; few = omega (arith, l, targets_length text r) }) (keys_few r h (omega (arith, l)))))
-      (λ f. rw f (keys_few r h (omega (arith, l))))
+      (λ t. rw t (cons (record { short = targets_short 512 text r more; few = omega (arith, l, targets_length text r) }) (keys_few r more (omega (arith, l)))))
+      (λ f. rw f (keys_few r more (omega (arith, l))))
 
-  module _ (r : List Cmd) (h : each_of (good_command text) r ≡ true) (l : length r ≤ n) (spec : Text) where
+  module _ (r : List Cmd) (h : each_of (is_short 512 text) r ≡ true) (l : length r ≤ n) (spec : Text) where
     pub equal_small : (k : Key) → equal_key spec (keys_of text r) ≡ Some k → FewKey k
-    equal_small k e = subst (λ (o : Option Key). IfSome o FewKey) e (equal_holds FewKey spec (keys_of text r) (keys_few r (all_good text r h) l))
+    equal_small k e = subst (λ (o : Option Key). IfSome o FewKey) e (equal_holds FewKey spec (keys_of text r) (keys_few r h l))
 
     pub best_small : (k : Key) → best_key spec None (keys_of text r) ≡ Some k → FewKey k
-    best_small k e = subst (λ (o : Option Key). IfSome o FewKey) e (best_holds FewKey spec None (keys_of text r) tt (keys_few r (all_good text r h) l))
+    best_small k e = subst (λ (o : Option Key). IfSome o FewKey) e (best_holds FewKey spec None (keys_of text r) tt (keys_few r h l))
 
 -- What is to be written: the targets of the key that is chosen
 
@@ -167,7 +168,7 @@ pub few_none : {n : ℕ} {ts : List Text} → ts ≡ [] → Few n ts
 unfolding laid
 few_none {n} {ts} e = rw e (record { count = omega arith; size = omega arith })
 
-module _ (text dir base spec : Text) (n : ℕ) (d : length dir ≤ 512) (b : length base ≤ 1600) (c : length spec ≤ 512) (r : List Cmd) (h : each_of (good_command text) r ≡ true) (l : length r ≤ n) where
+module _ (text dir base spec : Text) (n : ℕ) (d : length dir ≤ 512) (b : length base ≤ 1600) (c : length spec ≤ 512) (r : List Cmd) (h : each_of (is_short 512 text) r ≡ true) (l : length r ≤ n) where
   targets_few : (part : Option Text) → IfSome part (λ p. length p ≤ 512) → (k : Key) → FewKey text n k → Few n (map (target_as dir base part) k.targets)
   targets_few part p k f = record {
     count = omega (arith, f.few, length-map k.targets (target_as dir base part));

@@ -17,7 +17,7 @@ use Rattle.book.specs.declared.Cmd.{Cmd}
 use Rattle.book.specs.Command as command
 use Rattle.book.specs.Record.{is, keys_of, mapping}
 use Rattle.items.proofs.Reading.{mapping_is, mapping_not}
-use Rattle.record.specs.Good.{read}
+use Rattle.record.specs.Read.{read}
 use Rattle.tsconfig.specs.Config.{Field, base_url, paths}
 use Rattle.tsconfig.specs.Parsed.{placed_value, said}
 use Rattle.tsconfig.specs.Build.{Settings, built_value}
@@ -27,8 +27,8 @@ use Rattle.values.proofs.Lengths.{record_length}
 use Rattle.rows.specs.Rows.{slot, begin_at, supplier, number_of, Row}
 use Rattle.rows.specs.Records.{dir_of}
 use Rattle.rows.specs.Checked.{records_in}
-use Rattle.rows.specs.declared.CheckedBook.{CheckedBook}
-use Rattle.rows.proofs.Fields.{found_place, found_rec, record_says, supplier_there, place_there, place_good, site_path, site_none, site_plain, plain}
+use Rattle.rows.specs.declared.Book.{Book}
+use Rattle.rows.proofs.Fields.{found_place, found_rec, record_says, supplier_there, place_there, place_short, site_path, site_none, site_plain, plain}
 use Rattle.choice.specs.Keyed.{built_key}
 use Rattle.targets.specs.Targets.{Lists}
 use Rattle.targets.proofs.Aims.{lists_none}
@@ -44,7 +44,7 @@ unfolding is_some
 mapping_some text r e = by_test (some_of (is command.paths) r) (λ t. mapping_is text r t) (λ f. absurd (true≢false (sym e ∙ ap is_some (mapping_not text r f))))
 
 module _ (c : Config) where
-  abbrev b : CheckedBook
+  abbrev b : Book
   b = c.book.now
 
   abbrev s : Text
@@ -111,9 +111,9 @@ module _ (built : Built) (spec : Text) where
 
       mapped_few : length spec ≤ 512 → Few 32768 (aliases config spec)
       mapped_few short =
-          let good = place_good (s c) (text c) (b c).paths.rows.now (b c).records (row c) 4 rec (place_there (s c) (text c) (b c).paths.rows.now (b c).records (row c) (w c) 4 (omega arith)) q in
+          let short_strings = place_short (s c) (text c) (b c).paths.rows.now (b c).records (row c) 4 rec (place_there (s c) (text c) (b c).paths.rows.now (b c).records (row c) (w c) 4 (omega arith)) q in
           rw (← mapped)
-          (paths_few (text c) dir base spec 32768 c.short built.short short (read (s c) rec) good (omega (arith, record_length (s c) rec, (b c).records.small)))
+          (paths_few (text c) dir base spec 32768 c.short built.short short (read (s c) rec) short_strings (omega (arith, record_length (s c) rec, (b c).records.small)))
 
     -- they are not many, nor long
     pub aliases_few : length spec ≤ 512 → Few 32768 (aliases config spec)

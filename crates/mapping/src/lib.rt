@@ -5,7 +5,7 @@ ghost use Rattle.std.specs.Prelude.{◌≡◌, ◌<◌, ◌≤◌, ◌^◌, map,
 ghost use Rattle.text.specs.Bytes.{dot};
 ghost use Rattle.components.specs.Components.{starts};
 ghost use Rattle.book.specs.Record.{keys_of};
-ghost use Rattle.record.specs.Good.{read};
+ghost use Rattle.record.specs.Read.{read};
 ghost use Rattle.tsconfig.specs.Config.{base_url};
 ghost use Rattle.tsconfig.specs.Mapping.{from_paths, aliases, from_base_url, candidates};
 ghost use Rattle.sites.specs.Sites.{settings_in};

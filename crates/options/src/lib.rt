@@ -5,14 +5,13 @@ ghost use Rattle.std.specs.Prelude.{◌≡◌, ◌<◌, option_copied};
 ghost use Rattle.emit.specs.Emit.{Room};
 ghost use Rattle.emit.specs.Output.{Puts};
 ghost use Rattle.tsconfig.specs.Listing.{decimal};
-ghost use Rattle.sites.specs.Sites.{settings_in};
-ghost use Rattle.options.specs.Options.{flag_value, text_value, option_line, options_part};
+ghost use Rattle.options.specs.Options.{flag_value, text_value, option_line, Reaches, options_from};
 
 use emit::Output;
 use lines::put_value;
-use record::Record;
-use rows::places;
-use sites::Config;
+use record::Place;
+use records::PathTable;
+use rows::{begin_at, places};
 
 // Writes an id in decimal.
 fn put_decimal(out: &mut Output, id: u8)
@@ -41,33 +40,36 @@ fn put_option(out: &mut Output, name: &[u8], id: u8, value: Option<&[u8]>)
     put_value(out, value);
 }
 
-// What the supplier of a flag says of it, as a line has it.
+// What the supplier of a flag, which begins there, says of it, as a line has it.
 #[tactic(auto, unfolding(crate::specs::Options::flag_value))]
-fn flag_value(found: Option<Record>, id: u8) -> Option<&'static [u8]>
-    ensures { option_copied result ≡ flag_value id found.entry }
+fn flag_value(commands: &[u8], at: Option<usize>, id: u8) -> Option<&'static [u8]>
+    ensures { option_copied result ≡ flag_value commands.now id at }
 {
-    Some(if found?.flag(id)? { b"1" } else { b"0" })
+    let supplier = Place::new(commands, b"", at?);
+    Some(if supplier.flag(id)? { b"1" } else { b"0" })
 }
 
-// What the supplier of a text option says of it.
+// What the supplier of a text option, which begins there, says of it.
 #[tactic(auto, unfolding(crate::specs::Options::text_value))]
-fn text_value<'a>(found: Option<Record<'a>>, id: u8) -> Option<&'a [u8]>
-    ensures { option_copied result ≡ text_value id found.entry }
+fn text_value<'a>(commands: &'a [u8], text: &'a [u8], at: Option<usize>, id: u8) -> Option<&'a [u8]>
+    ensures { option_copied result ≡ text_value commands.now text.now id at }
 {
-    found?.text_option(id)
+    Place::new(commands, text, at?).text_option(id)
 }
 
-// Writes the flags and the text options of the config.
-pub fn put_options(out: &mut Output, config: &Config)
-    requires { Room out.old.at (options_part (settings_in config.now)) }
-    ensures { Puts (options_part (settings_in config.now)) out.old out.new }
+// Writes the flags and the text options of a row of suppliers.
+pub fn put_options(out: &mut Output, commands: &[u8], paths: &PathTable, row: &[u8])
+    requires reaches { Reaches paths.now.rows.now row.now }
+    requires room { Room out.old.at (options_from commands.now paths.now.rows.now row.now paths.now.text.now) }
+    ensures { Puts (options_from commands.now paths.now.rows.now row.now paths.now.text.now) out.old out.new }
 {
     for id in 0..places::FLAG_IDS {
-        let found = config.supplier(places::FLAGS + usize::from(id));
-        put_option(out, b"flag ", id, flag_value(found, id));
+        let at = begin_at(paths.rows, row, places::FLAGS + usize::from(id));
+        put_option(out, b"flag ", id, flag_value(commands, at, id));
     }
     for id in 0..places::TEXT_IDS {
-        let found = config.supplier(places::TEXTS + usize::from(id));
-        put_option(out, b"text ", id, text_value(found, id));
+        let at = begin_at(paths.rows, row, places::TEXTS + usize::from(id));
+        let value = text_value(commands, paths.text, at, id);
+        put_option(out, b"text ", id, value);
     }
 }

@@ -83,24 +83,24 @@ module _ (path : Text) (s : Site) (ss : List Site) (n : ℕ) (same : n ≡ s.num
 
 -- One folder: its config, as the code finds it
 
-module _ (book : CheckedBook) (path d : Text) (f : Option ℕ) (e : f ≡ find (push_of d tsconfig_json) (paths_in book.paths)) where
-  found : f ≡ find (push_of d tsconfig_json) (paths_of (records_in book))
+module _ (book : CheckedBook) (path d : Text) (f : Option ℕ) (e : f ≡ find (push_of d tsconfig_json) (paths_in book.book.paths)) where
+  found : f ≡ find (push_of d tsconfig_json) (paths_of (records_in book.book))
   found = e ∙ ap (find (push_of d tsconfig_json)) book.listed.paths
 
-  pub folder_none : f ≡ None → FolderAs (records_in book) path (find (push_of d tsconfig_json) (paths_of (records_in book))) (Ok None)
+  pub folder_none : f ≡ None → FolderAs (records_in book.book) path (find (push_of d tsconfig_json) (paths_of (records_in book.book))) (Ok None)
   unfolding owner_at
   folder_none h = record { answer = λ above. rw (← found, h) refl }
 
   module _ (c : ℕ) (h : f ≡ Some c) where
     -- the number is that of a record
-    pub folder_inside : c < length book.paths.rows.now
-    folder_inside = find_within book.paths.text.now book.paths.rows.now (push_of d tsconfig_json) c (sym h ∙ e)
+    pub folder_inside : c < length book.book.paths.rows.now
+    folder_inside = find_within book.book.paths.text.now book.book.paths.rows.now (push_of d tsconfig_json) c (sym h ∙ e)
 
-    pub folder_refused : (r : Refusal) → load_record (records_in book) c ≡ refusal r → FolderAs (records_in book) path (find (push_of d tsconfig_json) (paths_of (records_in book))) (Err r)
+    pub folder_refused : (r : Refusal) → load_record (records_in book.book) c ≡ refusal r → FolderAs (records_in book.book) path (find (push_of d tsconfig_json) (paths_of (records_in book.book))) (Err r)
     unfolding owner_at
     folder_refused r l = record { answer = λ above. rw (← found, h, l) refl }
 
-    pub folder_loaded : (s : Site) (ss : List Site) (m : ℕ) (r : Option Owner) → load_record (records_in book) c ≡ given (record { site = s; references = ss; merges = m }) → OwnedAs path s ss r → FolderAs (records_in book) path (find (push_of d tsconfig_json) (paths_of (records_in book))) (Ok r)
+    pub folder_loaded : (s : Site) (ss : List Site) (m : ℕ) (r : Option Owner) → load_record (records_in book.book) c ≡ given (record { site = s; references = ss; merges = m }) → OwnedAs path s ss r → FolderAs (records_in book.book) path (find (push_of d tsconfig_json) (paths_of (records_in book.book))) (Ok r)
     unfolding owner_at
     folder_loaded s ss m r l w = record { answer = λ above. (rw (← found, h, l) refl) ∙ w.answer m above }
 

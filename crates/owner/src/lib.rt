@@ -20,7 +20,7 @@ use claims::is_claimed;
 use component_walk::{count_components, inside_node_modules};
 use ends::parent;
 use references::load_record;
-use rows::{CheckedBook, ROW};
+use rows::{Book, CheckedBook, ROW};
 use sites::{Config, site_number};
 
 // The owner of a file: the record of the config found on the walk, and that of its solution.
@@ -31,7 +31,7 @@ pub struct Owner {
 }
 
 // The record of the first of the references that claims the path.
-fn first_claimer<'a>(book: &'a CheckedBook<'a>, refs: &'a [[u8; ROW]], path: &[u8]) -> Option<usize>
+fn first_claimer<'a>(book: &'a Book<'a>, refs: &'a [[u8; ROW]], path: &[u8]) -> Option<usize>
     requires { All (Row (records_in book.now)) refs.now }
     ensures { result ≡ claimer path.now (sites_of (records_in book.now) refs.now) }
 {
@@ -62,30 +62,30 @@ fn owned_by<'a>(config: &Config<'a>, refs: &'a [[u8; ROW]], path: &[u8]) -> Opti
 }
 
 // What the config of a folder, if it has one, comes to.
-fn owned_in(book: &CheckedBook<'_>, folder: &[u8], path: &[u8]) -> Result<Option<Owner>, Refusal>
-    ensures { FolderAs (records_in book.now) path.now (find (push_of folder.now tsconfig_json) (paths_of (records_in book.now))) result }
+fn owned_in(checked: &CheckedBook<'_>, folder: &[u8], path: &[u8]) -> Result<Option<Owner>, Refusal>
+    ensures { FolderAs (records_in checked.now.book) path.now (find (push_of folder.now tsconfig_json) (paths_of (records_in checked.now.book))) result }
 {
-    let Some(c) = book.paths.config_in(folder) else {
+    let Some(c) = checked.book.paths.config_in(folder) else {
         return Ok(None);
     };
-    let project = load_record(book, c)?;
+    let project = load_record(checked, c)?;
     Ok(owned_by(
-        &Config::new(book, &project.row),
+        &Config::new(&checked.book, &project.row),
         &project.references[..project.count],
         path,
     ))
 }
 
 // The path as a folder and each folder above it in turn, until one owns the path.
-pub fn find_owner(book: &CheckedBook<'_>, path: &[u8]) -> Result<Option<Owner>, Refusal>
-    ensures { owner_of (records_in book.now) path.now ≡ answered result (given None) }
+pub fn find_owner(checked: &CheckedBook<'_>, path: &[u8]) -> Result<Option<Owner>, Refusal>
+    ensures { owner_of (records_in checked.now.book) path.now ≡ answered result (given None) }
 {
     if inside_node_modules(path) {
         return Ok(None);
     }
     let mut folder = path;
     for _ in 0..count_components(path).max(1) {
-        if let Some(owner) = owned_in(book, folder, path)? {
+        if let Some(owner) = owned_in(checked, folder, path)? {
             return Ok(Some(owner));
         }
         folder = parent(folder);

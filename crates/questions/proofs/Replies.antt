@@ -59,19 +59,19 @@ module _ (commands text : Text) where
 pub not_asked : (rs : List Parsed) (path : Text) (ok : Bool) → ok ≡ false → asked_load ok rs path ≡ refused 7 0
 not_asked rs path ok e = rw e refl
 
-module _ (b : CheckedBook) (path : Text) (ok : Bool) (e : ok ≡ true) (f : Option ℕ) (h : f ≡ locate (paths_in b.paths) path) where
-  located : f ≡ locate (paths_of (records_in b)) path
+module _ (b : CheckedBook) (path : Text) (ok : Bool) (e : ok ≡ true) (f : Option ℕ) (h : f ≡ locate (paths_in b.book.paths) path) where
+  located : f ≡ locate (paths_of (records_in b.book)) path
   located = h ∙ ap (λ t. locate t path) b.listed.paths
 
-  pub asked_missing : f ≡ None → asked_load ok (records_in b) path ≡ refused 8 65535
+  pub asked_missing : f ≡ None → asked_load ok (records_in b.book) path ≡ refused 8 65535
   unfolding load_path load_found
   asked_missing n = rw (e, ← located, n) refl
 
   module _ (c : ℕ) (g : f ≡ Some c) where
-    pub asked_inside : c < length b.paths.rows.now
-    asked_inside = locate_within b.paths.text.now b.paths.rows.now path c (sym g ∙ h)
+    pub asked_inside : c < length b.book.paths.rows.now
+    asked_inside = locate_within b.book.paths.text.now b.book.paths.rows.now path c (sym g ∙ h)
 
-    pub asked_found : asked_load ok (records_in b) path ≡ load_record (records_in b) c
+    pub asked_found : asked_load ok (records_in b.book) path ≡ load_record (records_in b.book) c
     unfolding load_path load_found
     asked_found = rw (e, ← located, g) refl
 

@@ -20,7 +20,7 @@ use Rattle.questions.specs.Questions.{book, tsconfig_candidates, tsconfig_tries}
 -- what is told of a book by its check: the refusal, or its records
 abbrev pub Checks : Text → Text → Result CheckedBook Refusal → Type 0
 Checks commands text (Err r) = book commands text ≡ refusal r
-Checks commands text (Ok b) = book commands text ≡ given (records_in b)
+Checks commands text (Ok b) = book commands text ≡ given (records_in b.book)
 
 -- whether paths may be asked for; a directory is given for tries alone
 abbrev pub asked_for : Text → Option Text → Text → Bool

@@ -16,7 +16,7 @@ use paths_reply::write_paths;
 use records::PathTable;
 use references::{Project, load_record};
 use replies::{Given, give};
-use rows::CheckedBook;
+use rows::{Book, CheckedBook};
 use sites::{Built, Config};
 use strings::is_string;
 
@@ -33,9 +33,9 @@ fn open_book<'a>(
 {
     let count = check_book(commands, text, index)?;
     let rows = &index[..count];
+    let paths = PathTable { text, rows };
     Ok(CheckedBook {
-        commands,
-        paths: PathTable { text, rows },
+        book: Book { commands, paths },
     })
 }
 
@@ -51,8 +51,8 @@ fn is_asked(path: &[u8], directory: Option<&[u8]>, specifier: &[u8]) -> bool
 }
 
 // Loads the record that the path means, where the question may be asked: `ok` is what was told of the question, which is refused after the book.
-fn load_asked(book: &CheckedBook<'_>, ok: bool, path: &[u8]) -> Result<Project, Refusal>
-    ensures { LoadsAs (records_in book.now) (asked_load ok (records_in book.now) path.now) result }
+fn load_asked(checked: &CheckedBook<'_>, ok: bool, path: &[u8]) -> Result<Project, Refusal>
+    ensures { LoadsAs (records_in checked.now.book) (asked_load ok (records_in checked.now.book) path.now) result }
 {
     if !ok {
         return Err(Refusal {
@@ -60,13 +60,13 @@ fn load_asked(book: &CheckedBook<'_>, ok: bool, path: &[u8]) -> Result<Project, 
             place: 0,
         });
     }
-    let Some(c) = book.paths.locate(path) else {
+    let Some(c) = checked.book.paths.locate(path) else {
         return Err(Refusal {
             fault: Fault::NotFound,
             place: NOBODY,
         });
     };
-    load_record(book, c)
+    load_record(checked, c)
 }
 
 // The index and the buffers are of fixed length, here and below: nothing takes memory from a heap.
@@ -76,10 +76,10 @@ pub fn build(commands: &[u8], text: &[u8], path: &[u8], out: &mut [u8]) -> Resul
     ensures { AnsweredAs (tsconfig_build commands.now text.now path.now (length out.old)) result out.old out.new }
 {
     let mut index = [IndexRow::NONE; MOST_RECORDS];
-    let book = open_book(commands, text, &mut index)?;
-    let Project { row, merges, .. } = load_asked(&book, is_asked_path(path), path)?;
+    let checked = open_book(commands, text, &mut index)?;
+    let Project { row, merges, .. } = load_asked(&checked, is_asked_path(path), path)?;
     let mut buffer = [0u8; 1600];
-    let built = Built::new(Config::new(&book, &row), &mut buffer);
+    let built = Built::new(Config::new(&checked.book, &row), &mut buffer);
     let mut scratch = [0u8; 4096];
     write_listing(&built, merges, &mut scratch, out)
 }
@@ -96,10 +96,10 @@ fn paths(
     ensures { AnsweredAs (tsconfig_paths commands.now text.now path.now (option_copied directory.entry) specifier.now (length out.old)) result out.old out.new }
 {
     let mut index = [IndexRow::NONE; MOST_RECORDS];
-    let book = open_book(commands, text, &mut index)?;
-    let Project { row, .. } = load_asked(&book, is_asked(path, directory, specifier), path)?;
+    let checked = open_book(commands, text, &mut index)?;
+    let Project { row, .. } = load_asked(&checked, is_asked(path, directory, specifier), path)?;
     let mut buffer = [0u8; 1600];
-    let built = Built::new(Config::new(&book, &row), &mut buffer);
+    let built = Built::new(Config::new(&checked.book, &row), &mut buffer);
     let mut scratch = [0u8; 1024];
     write_paths(directory, &built, specifier, &mut scratch, out)
 }
@@ -136,14 +136,14 @@ pub fn owner(commands: &[u8], text: &[u8], path: &[u8]) -> Result<Given, Refusal
     ensures { numbers_by result ≡ returned (tsconfig_owner commands.now text.now path.now) }
 {
     let mut index = [IndexRow::NONE; MOST_RECORDS];
-    let book = open_book(commands, text, &mut index)?;
+    let checked = open_book(commands, text, &mut index)?;
     if !is_asked_path(path) {
         return Err(Refusal {
             fault: Fault::BadQuestion,
             place: 0,
         });
     }
-    match find_owner(&book, path)? {
+    match find_owner(&checked, path)? {
         Some(owner) => Ok(give(owner.found, owner.solution)),
         None => Ok(give(NOBODY, NOBODY)),
     }

@@ -1,2 +1,2 @@
-pub mod Good
+pub mod Read
 pub mod Lists

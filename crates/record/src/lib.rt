@@ -1,8 +1,8 @@
-// What a record of a checked book says: its strings, its keys with their targets, its options.
+// What commands say from a place on, as a record does: strings, keys with their targets, options.
 #![tactic(auto)]
 
 mod lists;
 mod place;
 
 pub use lists::{Key, Keys, Strings, Targets};
-pub use place::Record;
+pub use place::{ANY, Place, Record};

@@ -99,7 +99,7 @@ module _ (was : Loads) (c : ℕ) (s : Text) (f : Option ℕ) (e : f ≡ meant (r
 
 -- count references are loaded, and these are left
 pub record Referring (was : Loads) (c : ℕ) (now : Loads) (refs : List (List ℕ)) (left : List Text) (count : ℕ) : Type 0 where
-  pub book : now.book ≡ was.book
+  pub book : now.checked ≡ was.checked
   pub rest :
       references_of (records_of was) c (record_at (records_of was) c).references (state was)
       ≡ (references_of (records_of now) c left (state now) >>= λ more. given (sites_of (records_of now) (take count refs) ++ more))
@@ -117,16 +117,16 @@ both : (a : Answer (List Site)) (x : Site) (l k : List Site) → l ++ (x ∷ [])
 both (refused n p) x l k e = refl
 both (given more) x l k e = ap given (sym (append_assoc l (x ∷ []) more) ∙ ap (◌++ more) e)
 
-module _ (was : Loads) (c : ℕ) (inside : c < length was.book.now.paths.rows.now) where
+module _ (was : Loads) (c : ℕ) (inside : c < length was.checked.now.book.paths.rows.now) where
   pub referring_start :
       (refs : List (List ℕ)) → length refs ≡ 16 → Table (records_of was) was.table → reach nobody was ≤ 512 →
-      (left : List Text) → left ≡ strings was.book.now.paths.text.now reference (index.record_at was.book.now.commands.now (begin_of was.book.now.paths.rows.now c)) → Referring was c was refs left 0
+      (left : List Text) → left ≡ strings was.checked.now.book.paths.text.now reference (index.record_at was.checked.now.book.commands.now (begin_of was.checked.now.book.paths.rows.now c)) → Referring was c was refs left 0
   referring_start refs l t h left e = record {
     book = refl;
     rest =
-        ap (λ (ts : List Text). references_of (records_of was) c ts (state was)) (references_are was.book.now c inside ∙ sym e)
+        ap (λ (ts : List Text). references_of (records_of was) c ts (state was)) (references_are was.checked.now c inside ∙ sym e)
         ∙ given_self (references_of (records_of was) c left (state was));
-    few = omega (arith, ap length e, few_references was.book.now.paths.text.now (index.record_at was.book.now.commands.now (begin_of was.book.now.paths.rows.now c)) (record_sound was.book.now c inside));
+    few = omega (arith, ap length e, few_references was.checked.now.book.paths.text.now (index.record_at was.checked.now.book.commands.now (begin_of was.checked.now.book.paths.rows.now c)) (record_sound was.checked.now c inside));
     rows = nil;
     long = l;
     holds = t;
@@ -136,7 +136,7 @@ module _ (was : Loads) (c : ℕ) (inside : c < length was.book.now.paths.rows.no
   module _ (now : Loads) (refs : List (List ℕ)) (left : List Text) (count : ℕ) (p : Referring was c now refs left count) where
     pub referring_end : left ≡ [] → Listed (records_of was) (references_of (records_of was) c (record_at (records_of was) c).references (state was)) refs count
     unfolding references_of
-    referring_end e = subst (λ b. Listed (records_in b.now) (references_of (records_of was) c (record_at (records_of was) c).references (state was)) refs count) p.book (record {
+    referring_end e = subst (λ b. Listed (records_in b.now.book) (references_of (records_of was) c (record_at (records_of was) c).references (state was)) refs count) p.book (record {
       answer =
           p.rest
           ∙ ap (λ (l : List Text). references_of (records_of now) c l (state now) >>= λ more. given (sites_of (records_of now) (take count refs) ++ more)) e
@@ -151,7 +151,7 @@ module _ (was : Loads) (c : ℕ) (inside : c < length was.book.now.paths.rows.no
 
       -- what the next reference asks
       pub referring_next : ReferPre now c
-      referring_next = record { table = p.holds; inside = subst (λ b. c < length b.now.paths.rows.now) (sym p.book) inside; few = omega (arith, p.spent, referring_room) }
+      referring_next = record { table = p.holds; inside = subst (λ b. c < length b.now.book.paths.rows.now) (sym p.book) inside; few = omega (arith, p.spent, referring_room) }
 
       module _ (new : Loads) (w : Result (List ℕ) Refusal) (q : Refers now (8 + reach nobody now) (refer_to (records_of now) c (meant (records_of now) c u) (state now)) new w) where
         opens : (a : Answer Referred) → refer_to (records_of now) c (meant (records_of now) c u) (state now) ≡ a →
@@ -170,7 +170,7 @@ module _ (was : Loads) (c : ℕ) (inside : c < length was.book.now.paths.rows.no
         referring_on x h =
             let z : Refer now (8 + reach nobody now) (refer_to (records_of now) c (meant (records_of now) c u) (state now)) new x = subst (ReferAs now (8 + reach nobody now) (refer_to (records_of now) c (meant (records_of now) c u) (state now)) new) h q.told in
             let more : take (count + 1) (set refs count x) ≡ take count refs ++ (x ∷ []) = ap (λ (j : ℕ). take j (set refs count x)) (add-one count) ∙ take-suc-set refs count x (omega (arith, p.long, referring_room)) in
-            subst (λ b. Referring was c (record { book = b; table = new.table; merges = new.merges }) (set refs count x) next (count + 1)) (sym z.book) (record {
+            subst (λ b. Referring was c (record { checked = b; table = new.table; merges = new.merges }) (set refs count x) next (count + 1)) (sym z.book) (record {
               book = p.book;
               rest =
                   opens (given (record { site = site_of (records_of now) x; state = state_of (records_of now) new.table new.merges })) z.answer
@@ -211,33 +211,33 @@ module _ (rs : List Parsed) where
 
 -- nothing is loaded of the book
 abbrev pub none_of : Bor CheckedBook → Loads
-none_of book = record { book = book; table = unloaded; merges = 0 }
+none_of checked = record { checked = checked; table = unloaded; merges = 0 }
 
-module _ (book : Bor CheckedBook) (c : ℕ) where
+module _ (checked : Bor CheckedBook) (c : ℕ) where
   -- the records of the book
   abbrev rs : List Parsed
-  rs = records_in book.now
+  rs = records_in checked.now.book
 
-  module _ (t : Loads) (w : Result (List ℕ) Refusal) (q : Tells (none_of book) nobody c (reach nobody (none_of book)) (load (seen rs) (on_of nobody) c (state (none_of book))) t w) where
-    asks : load (seen rs) (on_of nobody) c (state (none_of book)) ≡ load_asked (seen rs) c
+  module _ (t : Loads) (w : Result (List ℕ) Refusal) (q : Tells (none_of checked) nobody c (reach nobody (none_of checked)) (load (seen rs) (on_of nobody) c (state (none_of checked))) t w) where
+    asks : load (seen rs) (on_of nobody) c (state (none_of checked)) ≡ load_asked (seen rs) c
     asks = ap₂ (λ (chain : ℕ → Bool) (s : Store). load (seen rs) chain c s) nobody_on (blank_state rs)
 
     pub whole_refused : (f : Refusal) → w ≡ Err f → load_record rs c ≡ refusal f
     unfolding load_record
     whole_refused f e =
         ap (λ (z : Gives). z >>= λ x. (references_of rs c (record_at rs c).references x.state >>= λ refs. given (record { site = site_at rs c x.config; references = refs; merges = x.state.merges })))
-        (sym asks ∙ subst (ToldAs (none_of book) nobody c (reach nobody (none_of book)) (load (seen rs) (on_of nobody) c (state (none_of book))) t) e q.told)
+        (sym asks ∙ subst (ToldAs (none_of checked) nobody c (reach nobody (none_of checked)) (load (seen rs) (on_of nobody) c (state (none_of checked))) t) e q.told)
 
     module _ (x : List ℕ) (e : w ≡ Ok x) where
-      went : Went (none_of book) nobody c (reach nobody (none_of book)) (load (seen rs) (on_of nobody) c (state (none_of book))) t x
-      went = subst (ToldAs (none_of book) nobody c (reach nobody (none_of book)) (load (seen rs) (on_of nobody) c (state (none_of book))) t) e q.told
+      went : Went (none_of checked) nobody c (reach nobody (none_of checked)) (load (seen rs) (on_of nobody) c (state (none_of checked))) t x
+      went = subst (ToldAs (none_of checked) nobody c (reach nobody (none_of checked)) (load (seen rs) (on_of nobody) c (state (none_of checked))) t) e q.told
 
       few : reach nobody t ≤ 512
       few = omega (arith, went.few, pending_few rs nobody unloaded)
 
       -- what the references ask
-      pub record_references : c < length book.now.paths.rows.now → ReferPre t c × (reach nobody t ≤ 512)
-      record_references inside = (subst (λ b. ReferPre (record { book = b; table = t.table; merges = t.merges }) c) (sym went.book) (record { table = went.table; inside = inside; few = omega (arith, few) }), few)
+      pub record_references : c < length checked.now.book.paths.rows.now → ReferPre t c × (reach nobody t ≤ 512)
+      record_references inside = (subst (λ b. ReferPre (record { checked = b; table = t.table; merges = t.merges }) c) (sym went.book) (record { table = went.table; inside = inside; few = omega (arith, few) }), few)
 
       goes : load_record rs c ≡ (references_of rs c (record_at rs c).references (state_of rs t.table t.merges) >>= λ refs. given (record { site = site_at rs c (config_of rs x); references = refs; merges = t.merges }))
       unfolding load_record state_of
@@ -247,7 +247,7 @@ module _ (book : Bor CheckedBook) (c : ℕ) where
 
       module _ (refs : List (List ℕ)) (v : Result ℕ Refusal) (p : Lists (records_of t) (references_of (records_of t) c (record_at (records_of t) c).references (state t)) refs v) where
         listed : ListedAs rs (references_of rs c (record_at rs c).references (state_of rs t.table t.merges)) refs v
-        listed = subst (λ (b : Bor CheckedBook). ListedAs (records_in b.now) (references_of (records_in b.now) c (record_at (records_in b.now) c).references (state_of (records_in b.now) t.table t.merges)) refs v) went.book p.told
+        listed = subst (λ (b : Bor CheckedBook). ListedAs (records_in b.now.book) (references_of (records_in b.now.book) c (record_at (records_in b.now.book) c).references (state_of (records_in b.now.book) t.table t.merges)) refs v) went.book p.told
 
         pub whole_reference : (f : Refusal) → v ≡ Err f → load_record rs c ≡ refusal f
         whole_reference f h =
@@ -271,5 +271,5 @@ module _ (book : Bor CheckedBook) (c : ℕ) where
             }
 
   -- what the load asks
-  pub record_load : c < length book.now.paths.rows.now → LoadPre (none_of book) nobody c
+  pub record_load : c < length checked.now.book.paths.rows.now → LoadPre (none_of checked) nobody c
   record_load inside = record { table = blank_table rs; inside = inside; fresh = nothing_held 64 c; few = omega (arith, pending_few rs nobody unloaded) }

@@ -21,12 +21,12 @@ nobody = replicate 64 false
 -- what the load of the record r asks, as a reference or for its references
 pub record ReferPre (l : Loads) (r : ℕ) : Type 0 where
   pub table : Table (records_of l) l.table
-  pub inside : r < length l.book.now.paths.rows.now
+  pub inside : r < length l.checked.now.book.paths.rows.now
   pub few : 8 + reach nobody l ≤ 65536
 
 -- a reference that is loaded, and what is loaded after it, of the same book
 pub record Refer (was : Loads) (most : ℕ) (a : Answer Referred) (now : Loads) (x : List ℕ) : Type 0 where
-  pub book : now.book ≡ was.book
+  pub book : now.checked ≡ was.checked
   pub answer : a ≡ given (record { site = site_of (records_of was) x; state = state_of (records_of was) now.table now.merges })
   pub row : Row (records_of was) x
   pub table : Table (records_of was) now.table

@@ -37,7 +37,7 @@ fn refer(loads: &mut Loads<'_>, c: usize, r: usize) -> Result<[u8; ROW], Refusal
             place: c,
         });
     }
-    let Opened { entries, row } = open_record(loads.book, r)?;
+    let Opened { entries, row } = open_record(loads.checked, r)?;
     loads.walk([false; MOST_RECORDS], r, entries.as_slice(), row)
 }
 
@@ -46,8 +46,9 @@ fn refer_to(loads: &mut Loads<'_>, c: usize, s: &[u8]) -> Result<[u8; ROW], Refu
     requires { ReferPre loads.old c × (length s.now ≤ 512) }
     ensures { Refers loads.old (8 + reach nobody loads.old) (refer_to (records_of loads.old) c (meant (records_of loads.old) c s.now) (state loads.old)) loads.new result }
 {
-    let dir = record_dir(loads.book, c);
-    let Some(r) = find_meant(&loads.book.paths, dir, s) else {
+    let paths = &loads.checked.book.paths;
+    let dir = record_dir(paths, c);
+    let Some(r) = find_meant(paths, dir, s) else {
         return Err(Refusal {
             fault: Fault::NotFound,
             place: c,
@@ -67,7 +68,7 @@ fn load_references(
 {
     // Counted as they are loaded: how many there are stands beside rows of fixed length.
     let mut count = 0;
-    for s in loads.book.record_at(c).strings(REFERENCE) {
+    for s in loads.checked.book.record_at(c).strings(REFERENCE) {
         refs[count] = refer_to(loads, c, s)?;
         count += 1;
     }
@@ -75,12 +76,12 @@ fn load_references(
 }
 
 // Loads the record c as the asked config: its extends, and its references, each to its row.
-pub fn load_record(book: &CheckedBook<'_>, c: usize) -> Result<Project, Refusal>
-    requires { c < length book.now.paths.rows.now }
-    ensures { WholeAs (records_in book.now) c result }
+pub fn load_record(checked: &CheckedBook<'_>, c: usize) -> Result<Project, Refusal>
+    requires { c < length checked.now.book.paths.rows.now }
+    ensures { WholeAs (records_in checked.now.book) c result }
 {
     let mut loads = Loads {
-        book,
+        checked,
         table: [None; MOST_RECORDS],
         merges: 0,
     };

@@ -3,7 +3,8 @@
 
 ghost use Rattle.std.specs.Prelude.{◌≡◌, [], ◌∷◌, length};
 ghost use Rattle.emit.specs.Emit.{Emits};
-ghost use Rattle.replies.specs.Replies.{Reply, fit, numbers_of, numbers_given, numbers_by, AnsweredAs, Writes};
+ghost use Rattle.book.specs.Answer.{refused};
+ghost use Rattle.replies.specs.Replies.{Reply, fit, returned, numbers_of, numbers_given, numbers_by, AnsweredAs, Writes};
 
 use book::{Fault, Refusal};
 use emit::Output;
@@ -38,6 +39,18 @@ pub struct Numbers {
     pub bytes: u64,
 }
 
+// A refusal by its number, and its place.
+#[tactic(auto, unfolding(crate::specs::Replies::returned))]
+pub fn refuse(number: u32, place: usize) -> Numbers
+    ensures { numbers_of result ≡ returned (refused number place) }
+{
+    Numbers {
+        number: u64::from(number),
+        place: place as u64,
+        ..Numbers::default()
+    }
+}
+
 impl From<Result<Given, Refusal>> for Numbers {
     ghost from_gives = { λ answer n. numbers_of n ≡ numbers_by answer };
 
@@ -50,11 +63,7 @@ impl From<Result<Given, Refusal>> for Numbers {
                 second: given.second as u64,
                 bytes: given.bytes as u64,
             },
-            Err(reason) => Numbers {
-                number: u64::from(reason.fault.number()),
-                place: reason.place as u64,
-                ..Numbers::default()
-            },
+            Err(reason) => refuse(reason.fault.number(), reason.place),
         }
     }
 }

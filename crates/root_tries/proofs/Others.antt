@@ -11,8 +11,8 @@ use Rattle.book.specs.Command.{root_dir}
 use Rattle.book.specs.Record.{strings}
 use Rattle.book.specs.Index.{record_at}
 use Rattle.book.specs.Sound.{nil, cons}
-use Rattle.record.specs.Good.{good_command}
-use Rattle.record.proofs.Good.{strings_short, all_good}
+use Rattle.record.specs.Read.{is_short}
+use Rattle.record.proofs.Short.{strings_short}
 use Rattle.tsconfig.specs.Laid.{laid}
 use Rattle.tsconfig.specs.Mapping.{in_roots}
 use Rattle.values.proofs.Lengths.{normalize_length, record_length, strings_length}
@@ -59,9 +59,9 @@ module _ (root rest : Text) where
           size = rw z (omega (arith, w.size, length-append v (laid (others (map (built_place dir own) ss))), normalize_length t rest, place_length dir own s, g, d, o, l));
         })
 
-    module _ (s text : Text) (at : ℕ) (h : each_of (good_command text) (record_at s at) ≡ true) (k : length s ≤ 32768) where
+    module _ (s text : Text) (at : ℕ) (h : each_of (is_short 512 text) (record_at s at) ≡ true) (k : length s ≤ 32768) where
       bounded : Within (strings text root_dir (record_at s at))
-      bounded = within (strings text root_dir (record_at s at)) (strings_short text root_dir (record_at s at) (all_good text (record_at s at) h))
+      bounded = within (strings text root_dir (record_at s at)) (strings_short 512 text root_dir (record_at s at) h)
 
       pub others_few : length (others (roots_of s text dir own at)) ≤ 32768
       others_few = omega (arith, bounded.count, strings_length text root_dir (record_at s at), record_length s at, k)

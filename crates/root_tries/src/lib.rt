@@ -4,7 +4,7 @@
 ghost use Rattle.std.specs.Prelude.{◌≤◌, length, Some};
 ghost use Rattle.ends.specs.Ends.{parent_of};
 ghost use Rattle.book.specs.Record.{record_path_of};
-ghost use Rattle.record.specs.Good.{read};
+ghost use Rattle.record.specs.Read.{read};
 ghost use Rattle.tsconfig.specs.Mapping.{in_roots, root_tries};
 ghost use Rattle.targets.specs.Targets.{Lists};
 ghost use Rattle.roots.specs.Roots.{roots_of};

@@ -23,8 +23,8 @@ use Rattle.book.specs.Index.{begin_of}
 use Rattle.book.specs.declared.IndexRow.{IndexRow}
 use Rattle.rows.specs.Rows.{absent, slot, base_place, own_place, supplier, number_of, config_of, site_of, Row, begin_at}
 use Rattle.text.specs.Text.{each_of}
-use Rattle.record.specs.Good.{good_command, read}
-use Rattle.record.proofs.Good.{good_each}
+use Rattle.record.specs.Read.{is_short, read}
+use Rattle.record.proofs.Short.{good_short}
 use Rattle.rows.specs.Records.{records_of, dir_of, said_at, Records}
 use Rattle.rows.proofs.Configs.{there}
 
@@ -143,13 +143,13 @@ module _ (commands text : Text) (rows : List IndexRow) (b : Records commands tex
   record_base = ap (λ (p : Parsed). p.base) (b.reads c h)
 
 module _ (commands text : Text) (rows : List IndexRow) (b : Records commands text rows) (row : List ℕ) (k rec : ℕ) where
-  -- what stands at a place of a row, where it is the number of a record, is good
-  pub place_good :
+  -- what stands at a place of a row, where it is the number of a record, is short
+  pub place_short :
       ((get_or row k absent ≡ absent → ⊥) → get_or row k absent < length (records_of commands text)) → Some rec ≡ begin_at rows row k →
-      each_of (good_command text) (read commands rec) ≡ true
-  place_good h e =
+      each_of (is_short 512 text) (read commands rec) ≡ true
+  place_short h e =
       let z : rec ≡ begin_of rows (get_or row k absent) = found_rec rows row k rec e in
-      good_each text (read commands rec) (subst (λ j. Sound text (read commands j)) (sym z) (b.sound (get_or row k absent) (h (found_place rows row k rec e)))).each
+      good_short text (read commands rec) (subst (λ j. Sound text (read commands j)) (sym z) (b.sound (get_or row k absent) (h (found_place rows row k rec e)))).each
 
 -- A row of the book's records
 

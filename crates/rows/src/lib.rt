@@ -24,13 +24,19 @@ pub const ABSENT: u8 = 255;
 // How many places a row has.
 pub const ROW: usize = 28;
 
-// An accepted book: its commands, and the records' paths, with the text and the rows of its index.
+// An accepted book: its commands, and the records' paths, with the text and the rows of its index, which say where the records begin.
 #[derive(Clone, Copy)]
-pub struct CheckedBook<'a> {
+pub struct Book<'a> {
     pub commands: &'a [u8],
     pub paths: PathTable<'a>,
     pub ghost records: { Records commands.now paths.text.now paths.rows.now } by { Records-prop commands.now paths.text.now paths.rows.now },
-    pub ghost listed: { Paths commands.now paths.text.now paths.rows.now },
+}
+
+// An accepted book whose index says the records' paths too, and has no row beyond.
+#[derive(Clone, Copy)]
+pub struct CheckedBook<'a> {
+    pub book: Book<'a>,
+    pub ghost listed: { Paths book.commands.now book.paths.text.now book.paths.rows.now },
 }
 
 // The place of the field that a command names.
@@ -77,7 +83,7 @@ pub fn own_row(commands: &[u8], rec: usize, c: u8) -> [u8; ROW]
 }
 
 // Where the record that stands at a place of the row begins in the commands.
-fn begin_at(rows: &[IndexRow], row: &[u8], k: usize) -> Option<usize>
+pub fn begin_at(rows: &[IndexRow], row: &[u8], k: usize) -> Option<usize>
     requires { (k < length row.now) × ((get_or row.now k 255 ≡ 255 → ⊥) → get_or row.now k 255 < length rows.now) }
     ensures { result ≡ begin_at rows.now row.now k }
 {
@@ -88,12 +94,12 @@ fn begin_at(rows: &[IndexRow], row: &[u8], k: usize) -> Option<usize>
     Some(rows[usize::from(c)].begin)
 }
 
-impl<'a> CheckedBook<'a> {
+impl<'a> Book<'a> {
     ghost use Rattle.rows.specs.Checked.{records_in};
 
     // The record c.
     pub fn record_at(&self, c: usize) -> Record<'a>
-        requires { c < length self.now.paths.rows.now }
+        requires { c < length (records_in self.now) }
         ensures at { result.at ≡ begin_of self.now.paths.rows.now c }
         ensures commands { result.commands.now ≡ self.now.commands.now }
         ensures text { result.text.now ≡ self.now.paths.text.now }

@@ -10,21 +10,21 @@ use Rattle.book.specs.Record.{record_path_of, single}
 use Rattle.book.specs.Command as command
 use Rattle.tsconfig.specs.Parsed.{own_base}
 use Rattle.tsconfig.specs.Build.{substituted}
-use Rattle.record.specs.Good.{read}
-use Rattle.record.specs.declared.place.Record.{Record}
+use Rattle.record.specs.Read.{read}
+use Rattle.record.specs.Lists.{Record}
 use Rattle.rows.specs.Rows.{base_place, own_place, begin_at, site_of, Row}
 use Rattle.rows.specs.Checked.{records_in}
-use Rattle.rows.specs.declared.CheckedBook.{CheckedBook}
+use Rattle.rows.specs.declared.Book.{Book}
 use Rattle.sites.specs.Configs.{site_at}
 use Rattle.sites.specs.Sites.{site_in}
 use Rattle.sites.specs.declared.Config.{Config}
 use Rattle.rows.proofs.Fields.{found_rec, found_none, site_path, site_base}
 
 -- the config of a row is that of the row's site
-pub site_is : (c : Config) (b : CheckedBook) (row : List ℕ) → c.book.now ≡ b → c.row.now ≡ row → site_in c ≡ site_at b row
+pub site_is : (c : Config) (b : Book) (row : List ℕ) → c.book.now ≡ b → c.row.now ≡ row → site_in c ≡ site_at b row
 site_is c b row e f = ap₂ site_at e f
 
-module _ (b : CheckedBook) (row : List ℕ) (w : Row (records_in b) row) where
+module _ (b : Book) (row : List ℕ) (w : Row (records_in b) row) where
   pub own_there : {X : Type 0} → None ≡ begin_at b.paths.rows.now row own_place → X
   own_there e = absurd (omega (arith, found_none b.paths.rows.now row own_place e, w.own, b.records.few))
 

@@ -9,7 +9,7 @@ ghost use Rattle.sites.specs.Configs.{site_at, Supplied};
 ghost use Rattle.sites.specs.Sets.{Row-prop};
 
 use record::Record;
-use rows::{CheckedBook, places};
+use rows::{Book, places};
 use values::base_of;
 
 // The number of the row's own record.
@@ -21,7 +21,7 @@ pub fn site_number(row: &[u8]) -> usize
 }
 
 // The directory of the row's own record, in which its config is built.
-fn site_dir<'a>(book: &CheckedBook<'a>, row: &[u8]) -> &'a [u8]
+fn site_dir<'a>(book: &Book<'a>, row: &[u8]) -> &'a [u8]
     requires { Row (records_in book.now) row.now }
     ensures value { result.now ≡ parent_of (site_at book.now row.now).path }
     ensures short { length result.now ≤ 512 }
@@ -35,7 +35,7 @@ fn site_dir<'a>(book: &CheckedBook<'a>, row: &[u8]) -> &'a [u8]
 // The config of a row of a book's records, with the directory of its record, in which it is built.
 #[derive(Clone, Copy)]
 pub struct Config<'a> {
-    pub book: &'a CheckedBook<'a>,
+    pub book: &'a Book<'a>,
     pub row: &'a [u8],
     pub dir: &'a [u8],
     pub ghost named: { Row (records_in book.now) row.now } by { Row-prop (records_in book.now) row.now },
@@ -46,7 +46,7 @@ pub struct Config<'a> {
 impl<'a> Config<'a> {
     ghost use Rattle.sites.specs.Sites.{site_in};
 
-    pub fn new(book: &'a CheckedBook<'a>, row: &'a [u8]) -> Config<'a>
+    pub fn new(book: &'a Book<'a>, row: &'a [u8]) -> Config<'a>
         requires { Row (records_in book.now) row.now }
         ensures book { result.book.now ≡ book.now }
         ensures row { result.row.now ≡ row.now }

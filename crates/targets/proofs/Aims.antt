@@ -62,6 +62,12 @@ module _ (dir base t v : Text) (q : v ≡ adjusted dir base t) where
 
 -- The next of the targets that are still to write
 
+pub each_next : {ts : List Text} {t : Text} {us : List Text} → ts ≡ t ∷ us → EachShort ts → (length t ≤ 512) × EachShort us
+each_next {ts} {t} {us} e a = parts (rw e at a)
+  where
+    parts : EachShort (t ∷ us) → (length t ≤ 512) × EachShort us
+    parts (cons g h) = (g, h)
+
 module _ (f : Text → Text) (ts : List Text) where
   pub laid_next : (t : Text) (us : List Text) → ts ≡ t ∷ us → laid (map f ts) ≡ laid (f t ∷ []) ++ laid (map f us)
   laid_next t us e = rw e (laid_cons (f t) (map f us))

@@ -8,7 +8,7 @@ ghost use Rattle.join.specs.Join.{normalize_with};
 ghost use Rattle.record.specs.Lists.{targets_left};
 ghost use Rattle.tsconfig.specs.Mapping.{filled};
 ghost use Rattle.tsconfig.specs.Laid.{size_of, laid};
-ghost use Rattle.targets.specs.Targets.{target_as, Short, Fits, Lists};
+ghost use Rattle.targets.specs.Targets.{target_as, EachShort, Short, Fits, Lists};
 
 use emit::Output;
 use join::normalize_with;
@@ -96,14 +96,15 @@ fn put_target(out: &mut Output, dir: &[u8], base: &[u8], t: &[u8], part: Option<
 }
 
 // Writes the targets, each as it is built, and gives how many they are.
-pub fn put_targets(
+pub fn put_targets<const MOST: usize>(
     out: &mut Output,
-    targets: Targets,
+    targets: Targets<MOST>,
     dir: &[u8],
     base: &[u8],
     part: Option<&[u8]>,
 ) -> usize
     requires short { Short dir.now base.now (option_copied part) }
+    requires each { EachShort (targets_left targets) }
     requires room { Fits (targets_left targets) out.old.at }
     ensures { Lists (map (target_as dir.now base.now (option_copied part.entry)) (targets_left targets.entry)) out.old out.new result }
 {

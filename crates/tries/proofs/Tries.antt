@@ -13,7 +13,7 @@ use Rattle.book.specs.declared.Cmd.{Cmd}
 use Rattle.book.specs.Command as command
 use Rattle.book.specs.Record.{is, strings, listed}
 use Rattle.items.proofs.Reading.{listed_is, listed_not}
-use Rattle.record.specs.Good.{read}
+use Rattle.record.specs.Read.{read}
 use Rattle.tsconfig.specs.Config.{base_url, root_dirs}
 use Rattle.tsconfig.specs.Parsed.{placed, placed_value, said}
 use Rattle.tsconfig.specs.Build.{Settings, substituted, built_value}
@@ -22,7 +22,7 @@ use Rattle.tsconfig.specs.Mapping.{aliases, from_base_url, root_tries, tries}
 use Rattle.rows.specs.Rows.{slot, begin_at, Row}
 use Rattle.rows.specs.Records.{dir_of}
 use Rattle.rows.specs.Checked.{records_in}
-use Rattle.rows.specs.declared.CheckedBook.{CheckedBook}
+use Rattle.rows.specs.declared.Book.{Book}
 use Rattle.rows.proofs.Fields.{site_none, site_at_lem}
 use Rattle.targets.specs.Targets.{Lists}
 use Rattle.targets.proofs.Lays.{laid_append}
@@ -39,7 +39,7 @@ unfolding is_some
 listed_some text mark item r e = by_test (some_of (is mark) r) (λ t. listed_is text r mark item t) (λ f. absurd (true≢false (sym e ∙ ap is_some (listed_not text r mark item f))))
 
 module _ (c : Config) where
-  abbrev b : CheckedBook
+  abbrev b : Book
   b = c.book.now
 
   abbrev row : List ℕ

@@ -7,7 +7,7 @@ ghost use Rattle.join.specs.Join.{normalize_with};
 ghost use Rattle.emit.specs.Output.{Becomes};
 ghost use Rattle.book.specs.Record.{single, record_path_of};
 ghost use Rattle.book.specs.Command.{base_url};
-ghost use Rattle.record.specs.Good.{read};
+ghost use Rattle.record.specs.Read.{read};
 ghost use Rattle.tsconfig.specs.Parsed.{placed, own_base};
 ghost use Rattle.tsconfig.specs.Build.{without_slashes, in_config_dir, substituted, adjusted};
 

@@ -7,20 +7,20 @@ use Rattle.choice.proofs.best_key.Goals.{else-least-star-via-then-least-star+els
 use Rattle.choice.proofs.best_key.Goals as goal
 
 pub loop-key-preserved-in_default : goal.loop-key-preserved-in_default
-loop-key-preserved-in_default c =
+loop-key-preserved-in_default g c =
     let i = c.loop-key.invariant in
     let on = c.in-Some.ensures.steps.first in
     let b = option_map key_of c.loop-key.best in
     record { left = sym (best_bare c.args.spec.now b _ _ _ c.find_star.ensures c.in_default.is) ∙ ap (best_key c.args.spec.now b) (sym on) ∙ i.left; least_is = i.least_is; short = i.short }
 
 pub matches_at-requires : goal.matches_at-requires
-matches_at-requires c = star_in _ c.args.spec.now _ c.find_star.ensures _ c.in-Some-find_star.is
+matches_at-requires g c = star_in _ c.args.spec.now _ c.find_star.ensures _ c.in-Some-find_star.is
 
 pub overflow_add-least : goal.overflow_add-least
-overflow_add-least c = omega (arith, c.in-Some.ensures.steps.short, star_in _ c.args.spec.now _ c.find_star.ensures _ c.in-Some-find_star.is)
+overflow_add-least g c = omega (arith, c.in-Some.ensures.steps.short, star_in _ c.args.spec.now _ c.find_star.ensures _ c.in-Some-find_star.is)
 
 pub loop-key-preserved-then-matches_at : goal.loop-key-preserved-then-matches_at
-loop-key-preserved-then-matches_at c =
+loop-key-preserved-then-matches_at g c =
     let i = c.loop-key.invariant in
     let on = c.in-Some.ensures.steps.first in
     let b = option_map key_of c.loop-key.best in
@@ -31,7 +31,7 @@ loop-key-preserved-then-matches_at c =
     }
 
 pub loop-key-preserved : goal.loop-key-preserved
-loop-key-preserved c =
+loop-key-preserved g c =
     let i = c.loop-key.invariant in
     let s = c.args.spec.now in
     let b = option_map key_of c.loop-key.best in
@@ -48,6 +48,6 @@ loop-key-preserved c =
     }
 
 pub returns-clause-value : goal.returns-clause-value
-returns-clause-value c =
+returns-clause-value g c =
     let b = option_map key_of c.loop-key.best in
     sym (best_end c.args.spec.now b) ∙ ap (best_key c.args.spec.now b) (sym c.in-None.ensures.steps.first.0) ∙ c.loop-key.invariant.left

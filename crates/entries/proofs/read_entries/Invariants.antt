@@ -7,4 +7,4 @@ use Rattle.entries.proofs.Going.{Reading}
 use Rattle.entries.proofs.read_entries.Given as goal
 
 abbrev pub invariant-loop-s : goal.invariant-loop-s
-invariant-loop-s l = Reading l.book l.dir (strings l.book.paths.text.now extends (record_at l.book.commands.now (begin_of l.book.paths.rows.now l.c))) l.all (strings_left l.s-iterator) l.count
+invariant-loop-s l = Reading l.checked l.dir (strings l.checked.book.paths.text.now extends (record_at l.checked.book.commands.now (begin_of l.checked.book.paths.rows.now l.c))) l.all (strings_left l.s-iterator) l.count

@@ -10,8 +10,8 @@ returns-in-empty c = entry_empty _ _ _ (omega arith)
 
 pub overflow_cast-result : goal.overflow_cast-result
 overflow_cast-result c =
-    let t = c.args.book.now.paths in
-    omega (arith, locate_within t.text.now t.rows.now _ _ (sym c.in-Some.is ∙ c.find_meant.ensures), few_records c.args.book.now)
+    let t = c.args.checked.now.book.paths in
+    omega (arith, locate_within t.text.now t.rows.now _ _ (sym c.in-Some.is ∙ c.find_meant.ensures), few_records c.args.checked.now)
 
 pub returns-in-Some : goal.returns-in-Some
 returns-in-Some c = ap reached (sym c.in-Some.is) ∙ entry_there _ c.args.dir.now c.args.s.now (omega arith) (omega arith) (omega arith) _ c.find_meant.ensures

@@ -1,3 +1,4 @@
+use Rattle.std.proofs.Common.{arith}
 use Rattle.listing.proofs.Whole.{own_there}
 use Rattle.listing.proofs.Steps.{lists_turn, base_turn, paths_turn, references_turn, places_turn, listing_done}
 use Rattle.listing.proofs.put_listing.Goals as goal
@@ -19,7 +20,7 @@ put_mapping-requires-clause-room c =
 pub put_references-requires : goal.put_references-requires
 put_references-requires c =
     let b = c.args.built.now in
-    (references_turn b.config _ _ b.value b.short c.requires _ c.in-Some.ensures c.put_lists.ensures c.put_row.ensures _ c.supplier-2.ensures c.put_mapping.ensures).room
+    (omega arith, (references_turn b.config _ _ b.value b.short c.requires _ c.in-Some.ensures c.put_lists.ensures c.put_row.ensures _ c.supplier-2.ensures c.put_mapping.ensures).room)
 
 pub put_places-requires : goal.put_places-requires
 put_places-requires c =

@@ -1,5 +1,6 @@
 use Rattle.std.proofs.Common.{refl}
 use Rattle.emit.proofs.Outputs.{left_end}
+use Rattle.options.proofs.Suppliers.{reaches}
 use Rattle.listing.proofs.Steps.{roots_turn, out_turn, declarations_turn, options_turn}
 use Rattle.listing.proofs.put_places.Goals as goal
 
@@ -16,7 +17,9 @@ put_place-requires-2-clause-room c =
 
 pub put_options-requires : goal.put_options-requires
 put_options-requires c =
-    (options_turn c.args.config.now _ c.requires _ c.supplier.ensures c.put_roots.ensures _ c.supplier-out_dir.ensures c.put_place.ensures _ c.supplier-declarations.ensures _ c.put_place-2.ensures).room
+    let o = c.args.config.now in
+    let t = options_turn c.args.config.now _ c.requires _ c.supplier.ensures c.put_roots.ensures _ c.supplier-out_dir.ensures c.put_place.ensures _ c.supplier-declarations.ensures _ c.put_place-2.ensures in
+    record { reaches = reaches o.book.now o.row.now o.named; room = t.room }
 
 pub returns : goal.returns
 returns c =

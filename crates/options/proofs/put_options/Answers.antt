@@ -1,47 +1,40 @@
-use Rattle.std.proofs.Common.{◌+◌, arith}
+use Rattle.std.proofs.Common.{◌+◌, ap, ◌∙◌, arith}
 use Rattle.emit.proofs.Outputs.{left_all, left_room, left_step, left_end}
-use Rattle.tsconfig.specs.Listing.{texts}
-use Rattle.sites.specs.Sites.{settings_in}
-use Rattle.options.specs.Options.{options_part}
+use Rattle.rows.specs.Rows.{begin_at}
+use Rattle.options.specs.Options.{flag_value, text_value, texts_from, options_from}
 use Rattle.options.proofs.Suppliers.{flags_turn, flags_end, texts_turn, texts_end}
 use Rattle.options.proofs.put_options.Goals as goal
 
 pub loop-id-init : goal.loop-id-init
-unfolding options_part
+unfolding options_from
 loop-id-init c = left_all _ _
-
-pub supplier-found-requires : goal.supplier-found-requires
-supplier-found-requires c = omega (arith, c.from.ensures, c.loop-id-test.true)
 
 pub put_option-requires-clause-room : goal.put_option-requires-clause-room
 put_option-requires-clause-room c =
-    let o = c.args.config.now in
-    let s = rw c.from.ensures at c.supplier-found.ensures in
-    left_room _ _ _ _ c.loop-id.invariant _ _ (flags_turn o.book.now o.row.now o.named c.loop-id.id c.supplier-found.result _ c.loop-id-test.true s c.flag_value.ensures (texts (settings_in o) 0 7)) c.requires
+    let a = c.args in
+    let value = c.flag_value.ensures ∙ ap (flag_value a.commands.now c.loop-id.id) (c.begin_at-at.ensures ∙ ap (λ i. begin_at a.paths.now.rows.now a.row.now (8 + i)) c.from.ensures) in
+    left_room _ _ _ _ c.loop-id.invariant _ _ (flags_turn a.commands.now a.paths.now.rows.now a.row.now c.loop-id.id c.loop-id-test.true _ value (texts_from a.commands.now a.paths.now.rows.now a.row.now a.paths.now.text.now 0 7)) c.requires.room
 
 pub loop-id-preserved : goal.loop-id-preserved
 loop-id-preserved c =
-    let o = c.args.config.now in
-    let s = rw c.from.ensures at c.supplier-found.ensures in
-    left_step _ _ _ _ c.loop-id.invariant _ _ _ (flags_turn o.book.now o.row.now o.named c.loop-id.id c.supplier-found.result _ c.loop-id-test.true s c.flag_value.ensures (texts (settings_in o) 0 7)) c.put_option.ensures
+    let a = c.args in
+    let value = c.flag_value.ensures ∙ ap (flag_value a.commands.now c.loop-id.id) (c.begin_at-at.ensures ∙ ap (λ i. begin_at a.paths.now.rows.now a.row.now (8 + i)) c.from.ensures) in
+    left_step _ _ _ _ c.loop-id.invariant _ _ _ (flags_turn a.commands.now a.paths.now.rows.now a.row.now c.loop-id.id c.loop-id-test.true _ value (texts_from a.commands.now a.paths.now.rows.now a.row.now a.paths.now.text.now 0 7)) c.put_option.ensures
 
 pub loop-id-2-init : goal.loop-id-2-init
-loop-id-2-init c = rw (flags_end (settings_in c.args.config.now) c.loop-id.id (omega (arith, c.loop-id-test.false))) at c.loop-id.invariant
-
-pub supplier-found-requires-in-loop-id-2 : goal.supplier-found-requires-in-loop-id-2
-supplier-found-requires-in-loop-id-2 c = omega (arith, c.from-in-loop-id-2.ensures, c.loop-id-2-test.true)
+loop-id-2-init c = let a = c.args in rw (flags_end a.commands.now a.paths.now.rows.now a.row.now c.loop-id.id (omega (arith, c.loop-id-test.false))) at c.loop-id.invariant
 
 pub put_option-requires-in-loop-id-2-clause-room : goal.put_option-requires-in-loop-id-2-clause-room
 put_option-requires-in-loop-id-2-clause-room c =
-    let o = c.args.config.now in
-    let s = rw c.from-in-loop-id-2.ensures at c.supplier-found-in-loop-id-2.ensures in
-    left_room _ _ _ _ c.loop-id-2.invariant _ _ (texts_turn o.book.now o.row.now o.named c.loop-id-2.id c.supplier-found-in-loop-id-2.result _ c.loop-id-2-test.true s c.text_value.ensures) c.requires
+    let a = c.args in
+    let value = c.text_value-value.ensures ∙ ap (text_value a.commands.now a.paths.now.text.now c.loop-id-2.id) (c.begin_at-at-in-loop-id-2.ensures ∙ ap (λ i. begin_at a.paths.now.rows.now a.row.now (19 + i)) c.from-in-loop-id-2.ensures) in
+    left_room _ _ _ _ c.loop-id-2.invariant _ _ (texts_turn a.commands.now a.paths.now.rows.now a.row.now c.loop-id-2.id a.paths.now.text.now c.loop-id-2-test.true _ value) c.requires.room
 
 pub loop-id-2-preserved : goal.loop-id-2-preserved
 loop-id-2-preserved c =
-    let o = c.args.config.now in
-    let s = rw c.from-in-loop-id-2.ensures at c.supplier-found-in-loop-id-2.ensures in
-    left_step _ _ _ _ c.loop-id-2.invariant _ _ _ (texts_turn o.book.now o.row.now o.named c.loop-id-2.id c.supplier-found-in-loop-id-2.result _ c.loop-id-2-test.true s c.text_value.ensures) c.put_option-in-loop-id-2.ensures
+    let a = c.args in
+    let value = c.text_value-value.ensures ∙ ap (text_value a.commands.now a.paths.now.text.now c.loop-id-2.id) (c.begin_at-at-in-loop-id-2.ensures ∙ ap (λ i. begin_at a.paths.now.rows.now a.row.now (19 + i)) c.from-in-loop-id-2.ensures) in
+    left_step _ _ _ _ c.loop-id-2.invariant _ _ _ (texts_turn a.commands.now a.paths.now.rows.now a.row.now c.loop-id-2.id a.paths.now.text.now c.loop-id-2-test.true _ value) c.put_option-in-loop-id-2.ensures
 
 pub returns : goal.returns
-returns c = left_end _ _ _ _ c.loop-id-2.invariant (texts_end (settings_in c.args.config.now) c.loop-id-2.id (omega (arith, c.loop-id-2-test.false)))
+returns c = let a = c.args in left_end _ _ _ _ c.loop-id-2.invariant (texts_end a.commands.now a.paths.now.rows.now a.row.now c.loop-id-2.id a.paths.now.text.now (omega (arith, c.loop-id-2-test.false)))

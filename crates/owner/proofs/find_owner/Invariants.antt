@@ -5,4 +5,4 @@ use Rattle.owner.proofs.Walks.{left}
 use Rattle.owner.proofs.find_owner.Given as goal
 
 abbrev pub invariant-loop : goal.invariant-loop
-invariant-loop l = owner_of (records_in l.book) l.path ≡ owner_from (records_in l.book) l.path (left (l.end - l.counter) l.folder)
+invariant-loop l = owner_of (records_in l.checked.book) l.path ≡ owner_from (records_in l.checked.book) l.path (left (l.end - l.counter) l.folder)

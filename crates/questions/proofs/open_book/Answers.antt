@@ -11,13 +11,10 @@ returns-in_err-count c =
     rw (p.1, p.2) (book_refused a.commands.now a.text.now _ c.in_err-count.ensures)
 
 pub invariant_of-result : goal.invariant_of-result
-invariant_of-result c =
-    let a = c.args in
-    let j = c.in_ok-count.ensures in
-    record {
-      records = accepted a.commands.now a.text.now _ _ (search rules) j;
-      listed = accepted_paths a.commands.now a.text.now _ _ (search rules) j;
-    }
+invariant_of-result c = let a = c.args in record { records = accepted a.commands.now a.text.now _ _ (search rules) c.in_ok-count.ensures }
+
+pub invariant_of-result-2 : goal.invariant_of-result-2
+invariant_of-result-2 c = let a = c.args in record { listed = accepted_paths a.commands.now a.text.now _ _ (search rules) c.in_ok-count.ensures }
 
 pub returns : goal.returns
 returns c = let a = c.args in book_given a.commands.now a.text.now _ _ c.in_ok-count.ensures

@@ -12,7 +12,7 @@ loop-s-init c =
     let items = c.strings-s-items.ensures in
     let begun = c.into_iter-s-iterator.ensures.into_iter_gives in
     referring_start a.loads.now a.c c.requires.0.inside a.refs.now (omega arith) c.requires.0.table c.requires.1 _
-    (strings_are a.loads.now.book.now a.c c.requires.0.inside c.record_at.result own.at own.commands own.text _ (ap (λ (it : Strings). it.record) begun ∙ items.record) _ (ap (λ (it : Strings). it.op) begun ∙ items.op))
+    (strings_are a.loads.now.checked.now a.c c.requires.0.inside c.record_at.result own.at own.commands own.text _ (ap (λ (it : Strings 512). it.place) begun ∙ items.place) _ (ap (λ (it : Strings 512). it.op) begun ∙ items.op))
 
 pub refer_to-requires : goal.refer_to-requires
 refer_to-requires c = (referring_next _ _ c.requires.0.inside _ _ _ _ c.loop-s.invariant c.in-Some.ensures.steps.first, c.in-Some.ensures.steps.short)

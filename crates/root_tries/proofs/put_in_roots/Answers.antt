@@ -16,13 +16,13 @@ pub put_read-requires-clause-near : goal.put_read-requires-clause-near
 put_read-requires-clause-near c =
     let a = c.args in
     let r = a.record.now in
-    others_near a.root.now a.rest.now a.dir.now a.own.now c.requires.dir c.requires.own c.requires.rest r.commands.now r.text.now r.at r.good c.requires.book _ _ _ c.loop-s.invariant.left c.requires.near
+    others_near a.root.now a.rest.now a.dir.now a.own.now c.requires.dir c.requires.own c.requires.rest r.commands.now r.text.now r.at r.short c.requires.book _ _ _ c.loop-s.invariant.left c.requires.near
 
 pub overflow_add-count : goal.overflow_add-count
 overflow_add-count c =
     let a = c.args in
     let r = a.record.now in
-    omega (arith, c.loop-s.invariant.counts, others_few a.root.now a.rest.now a.dir.now a.own.now c.requires.dir c.requires.own c.requires.rest r.commands.now r.text.now r.at r.good c.requires.book)
+    omega (arith, c.loop-s.invariant.counts, others_few a.root.now a.rest.now a.dir.now a.own.now c.requires.dir c.requires.own c.requires.rest r.commands.now r.text.now r.at r.short c.requires.book)
 
 pub loop-s-preserved-then-not-same_path : goal.loop-s-preserved-then-not-same_path
 loop-s-preserved-then-not-same_path c =

@@ -25,7 +25,7 @@ overflow_add-result c =
     let a = c.args in
     let r = a.record.now in
     let rest : length c.in-Some-strip_prefix.rest.now ≤ 1100 = omega (arith, strip_le a.p.now _ _ (sym c.strip_prefix.ensures ∙ ap option_copied c.in-Some-strip_prefix.is), c.requires.p) in
-    omega (arith, c.put_in_roots.ensures.counts, others_few c.build_place-root.result.now c.in-Some-strip_prefix.rest.now a.dir.now c.dir-own.result.now c.requires.dir c.dir-own.ensures.short rest r.commands.now r.text.now r.at r.good c.requires.book)
+    omega (arith, c.put_in_roots.ensures.counts, others_few c.build_place-root.result.now c.in-Some-strip_prefix.rest.now a.dir.now c.dir-own.result.now c.requires.dir c.dir-own.ensures.short rest r.commands.now r.text.now r.at r.short c.requires.book)
 
 pub returns-in-Some-strip_prefix : goal.returns-in-Some-strip_prefix
 returns-in-Some-strip_prefix c =

@@ -3,28 +3,30 @@ use lib.ListN.{length-map}
 use Rattle.emit.proofs.Outputs.{left_room, left_step, left_end}
 use Rattle.record.specs.Lists.{targets_left}
 use Rattle.targets.specs.Targets.{target_as}
-use Rattle.record.proofs.Good.{all_good, targets_short}
-use Rattle.targets.proofs.Aims.{targets_room, laid_next, laid_end}
+use Rattle.targets.proofs.Aims.{targets_room, each_next, laid_next, laid_end}
 use Rattle.targets.proofs.put_targets.Goals as goal
 
 pub put_target-requires-clause-room : goal.put_target-requires-clause-room
-put_target-requires-clause-room c =
+put_target-requires-clause-room g c =
     let a = c.args in
     let f = target_as a.dir.now a.base.now (option_copied a.part) in
-    let r = a.targets.record in
-    left_room _ _ _ _ c.loop-t.invariant.left _ _ (laid_next f _ _ _ c.in-Some.ensures.steps.first) (targets_room a.dir.now a.base.now _ c.requires.short _ _ (targets_short r.text.now _ (all_good r.text.now _ r.good)) c.requires.room)
+    left_room _ _ _ _ c.loop-t.invariant.left _ _ (laid_next f _ _ _ c.in-Some.ensures.steps.first) (targets_room a.dir.now a.base.now _ c.requires.short _ _ c.requires.each c.requires.room)
+
+pub put_target-requires-clause-t : goal.put_target-requires-clause-t
+put_target-requires-clause-t g c = (each_next c.in-Some.ensures.steps.first c.loop-t.invariant.each).0
 
 pub loop-t-preserved : goal.loop-t-preserved
-loop-t-preserved c =
+loop-t-preserved g c =
     let a = c.args in
     let f = target_as a.dir.now a.base.now (option_copied a.part) in
     record {
       left = left_step _ _ _ _ c.loop-t.invariant.left _ _ _ (laid_next f _ _ _ c.in-Some.ensures.steps.first) c.put_target.ensures;
+      each = (each_next c.in-Some.ensures.steps.first c.loop-t.invariant.each).1;
       counts = omega (arith, c.loop-t.invariant.counts, ap length c.in-Some.ensures.steps.first);
     }
 
 pub returns : goal.returns
-returns c =
+returns g c =
     let a = c.args in
     let f = target_as a.dir.now a.base.now (option_copied a.part) in
     record {

@@ -17,7 +17,7 @@ returns-in-Some c =
     let e = c.in-Some.ensures in
     let test = λ (f : Text). same_path f c.args.path.now in
     rw (files_some s.config.now c.in-Some.supplier e.commands e.text e.at, ← s.config.now.place)
-    (any_from_yields_List test _ _ c.any.result c.any.ensures.ran (built_strings s.config.now.dir.now c.in-Some.supplier 3 c.strings.result c.strings.ensures.record c.strings.ensures.op) (λ x b q k. search (rules, tests))
+    (any_from_yields_List test _ _ c.any.result c.any.ensures.ran (built_strings s.config.now.dir.now c.in-Some.supplier 3 c.strings.result c.strings.ensures.place c.strings.ensures.op) (λ x b q k. search (rules, tests))
     ∙ some_as_std test _)
 
 pub returns-in-None : goal.returns-in-None

@@ -11,18 +11,18 @@ pub bring-returns-in-None : goal.bring-returns-in-None
 bring-returns-in-None t c = let a = c.args in bring_loaded a.self.now a.on a.v c.in-None.is _ _ _ c.load.ensures
 
 pub load-returns-then-on-c : goal.load-returns-then-on-c
-load-returns-then-on-c t c = let a = c.args in record { told = load_on a.self.now a.on a.c (inside_records a.self.now.book.now a.c c.requires.inside) c.if-on-c.true }
+load-returns-then-on-c t c = let a = c.args in record { told = load_on a.self.now a.on a.c (inside_records a.self.now.checked.now a.c c.requires.inside) c.if-on-c.true }
 
 pub load-returns-in_err-entries : goal.load-returns-in_err-entries
 load-returns-in_err-entries t c =
     let a = c.args in
     let p = err_from_is_err_and c.from_residual.result c.from_residual.ensures.1 in
-    rw (p.1, p.2) (record { told = load_unread a.self.now a.on a.c (inside_records a.self.now.book.now a.c c.requires.inside) c.if-on-c.false _ c.in_err-entries.ensures.err })
+    rw (p.1, p.2) (record { told = load_unread a.self.now a.on a.c (inside_records a.self.now.checked.now a.c c.requires.inside) c.if-on-c.false _ c.in_err-entries.ensures.err })
 
 pub load-walk-requires : goal.load-walk-requires
 load-walk-requires t c =
     let a = c.args in
-    let few = few_records a.self.now.book.now in (
+    let few = few_records a.self.now.checked.now in (
       omega (arith, spare_set a.on a.c (omega (arith, few, c.requires.inside)) (omega arith) c.if-on-c.false),
       walk_start a.self.now a.on a.c (omega arith) c.requires c.if-on-c.false _ c.in_ok-entries.ensures.ok _ c.as_slice.ensures,
     )
@@ -30,18 +30,18 @@ load-walk-requires t c =
 pub load-returns-in_err-merged : goal.load-returns-in_err-merged
 load-returns-in_err-merged t c =
     let a = c.args in
-    let few = few_records a.self.now.book.now in
+    let few = few_records a.self.now.checked.now in
     let p = err_from_is_err_and c.from_residual-in_err-merged.result c.from_residual-in_err-merged.ensures.1 in
     rw (p.1, p.2) (record {
-      told = load_refused a.self.now a.on a.c (inside_records a.self.now.book.now a.c c.requires.inside) c.if-on-c.false _ c.in_ok-entries.ensures.ok (omega arith) (omega (arith, few, c.requires.inside)) _ c.as_slice.ensures c.requires.fresh _ _ c.walk.ensures _ c.in_err-merged.was;
+      told = load_refused a.self.now a.on a.c (inside_records a.self.now.checked.now a.c c.requires.inside) c.if-on-c.false _ c.in_ok-entries.ensures.ok (omega arith) (omega (arith, few, c.requires.inside)) _ c.as_slice.ensures c.requires.fresh _ _ c.walk.ensures _ c.in_err-merged.was;
     })
 
 pub load-returns : goal.load-returns
 load-returns t c =
     let a = c.args in
-    let few = few_records a.self.now.book.now in
+    let few = few_records a.self.now.checked.now in
     record {
-      told = load_done a.self.now a.on a.c (inside_records a.self.now.book.now a.c c.requires.inside) c.if-on-c.false _ c.in_ok-entries.ensures.ok (omega arith) (omega (arith, few, c.requires.inside)) _ c.as_slice.ensures c.requires.fresh _ _ c.walk.ensures _ c.in_ok-merged.was (omega arith);
+      told = load_done a.self.now a.on a.c (inside_records a.self.now.checked.now a.c c.requires.inside) c.if-on-c.false _ c.in_ok-entries.ensures.ok (omega arith) (omega (arith, few, c.requires.inside)) _ c.as_slice.ensures c.requires.fresh _ _ c.walk.ensures _ c.in_ok-merged.was (omega arith);
     }
 
 pub walk-returns-in_err-v : goal.walk-returns-in_err-v
