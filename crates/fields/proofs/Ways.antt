@@ -106,7 +106,7 @@ module _ (found : Option Record) where
       unfolding roots_at
       roots_empty n = rw e (sym (items_none (bytes "rootDir") r.text.now (built_place dir (dir_of r)) root_dir (read r.commands.now r.at) (missing e root_dir v n)))
 
-      pub roots_full : {x : Bor Text} → o ≡ Some x → rows (bytes "rootDir") (built_roots r dir) ≡ roots_at dir found
+      pub roots_full : {x : Bor Text} → o ≡ Some x → rows (bytes "rootDir") (built_roots r dir (dir_of r)) ≡ roots_at dir found
       unfolding roots_at
       roots_full g = rw e (sym (items_some (bytes "rootDir") r.text.now (built_place dir (dir_of r)) root_dir (read r.commands.now r.at) (got e root_dir v g)))
 

@@ -17,7 +17,7 @@ list_at name dir op (Some r) = items name (built_strings r dir op)
 -- the lines of rootDirs
 unfoldable pub roots_at : Text → Option Record → Text
 roots_at dir None = []
-roots_at dir (Some r) = items (bytes "rootDir") (built_roots r dir)
+roots_at dir (Some r) = items (bytes "rootDir") (built_roots r dir (dir_of r))
 
 -- the line of baseUrl
 unfoldable pub url_at : Text → Option Record → Text

@@ -39,7 +39,7 @@ pub fn put_roots(out: &mut Output, found: Option<Record>, dir: &[u8])
         return;
     };
     match record.string(ROOT_DIR) {
-        Some(_) => put_root_rows(out, &record, dir),
+        Some(_) => put_root_rows(out, &record, dir, record.dir()),
         None => put_line(out, b"rootDir"),
     }
 }

@@ -39,9 +39,9 @@ module _ (r : Record) where
   abbrev pub built_strings : Text → ℕ → List Text
   built_strings dir op = map (adjusted dir dir) (strings r.text.now op (read r.commands.now r.at))
 
-  -- its root dirs, as built
-  abbrev pub built_roots : Text → List Text
-  built_roots dir = map (built_place dir dir_of) (strings r.text.now root_dir (read r.commands.now r.at))
+  -- its root dirs, as built where its directory is own
+  abbrev pub built_roots : Text → Text → List Text
+  built_roots dir own = map (built_place dir own) (strings r.text.now root_dir (read r.commands.now r.at))
 
   -- its keys, as built
   abbrev pub built_keys : Text → Text → List Key

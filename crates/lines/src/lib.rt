@@ -143,13 +143,13 @@ pub fn put_references<const MOST: usize>(out: &mut Output, place: &Place<MOST>)
     }
 }
 
-// Writes the record's root dirs, a line each.
-pub fn put_root_rows(out: &mut Output, record: &Record, dir: &[u8])
-    requires room { Room out.old.at (rows (bytes "rootDir") (built_roots record.now dir.now)) }
+// Writes the record's root dirs, read from its own directory, a line each.
+pub fn put_root_rows(out: &mut Output, record: &Record, dir: &[u8], own: &[u8])
+    requires room { Room out.old.at (rows (bytes "rootDir") (built_roots record.now dir.now own.now)) }
     requires dir { length dir.now ≤ 512 }
-    ensures { Puts (rows (bytes "rootDir") (built_roots record.now dir.now)) out.old out.new }
+    requires own { length own.now ≤ 512 }
+    ensures { Puts (rows (bytes "rootDir") (built_roots record.now dir.now own.now)) out.old out.new }
 {
-    let own = record.dir();
     for s in record.strings(ROOT_DIR) {
         put_placed(out, b"rootDir", dir, own, s);
     }

@@ -153,7 +153,7 @@ module _ (dir : Text) (sd : length dir ≤ 512) where
   unfolding roots_at
   roots_size None few = omega arith
   roots_size (Some r) few =
-      omega (arith, items_length (bytes "rootDir") (built_roots r dir), rows_strings r.text.now (bytes "rootDir") (omega arith) (built_place dir (dir_of r)) (placed_small r) command.root_dir (read r.commands.now r.at) (shorts r), record_length r.commands.now r.at, few)
+      omega (arith, items_length (bytes "rootDir") (built_roots r dir (dir_of r)), rows_strings r.text.now (bytes "rootDir") (omega arith) (built_place dir (dir_of r)) (placed_small r) command.root_dir (read r.commands.now r.at) (shorts r), record_length r.commands.now r.at, few)
 
   pub url_size : (f : Option Record) → IfSome f Fits → length (url_at dir f) ≤ 132000000
   unfolding url_at

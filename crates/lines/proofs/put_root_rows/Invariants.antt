@@ -7,4 +7,4 @@ use Rattle.lines.specs.Lines.{built_place, built_roots}
 use Rattle.lines.proofs.put_root_rows.Given as goal
 
 abbrev pub invariant-loop-s : goal.invariant-loop-s
-invariant-loop-s l = Left (rows (bytes "rootDir") (built_roots l.record l.dir)) l.fn.out (rows (bytes "rootDir") (map (built_place l.dir l.own) (strings_left l.s-iterator))) l.out
+invariant-loop-s l = Left (rows (bytes "rootDir") (built_roots l.record l.dir l.own)) l.fn.out (rows (bytes "rootDir") (map (built_place l.dir l.own) (strings_left l.s-iterator))) l.out
