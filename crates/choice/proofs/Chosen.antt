@@ -1,10 +1,9 @@
 -- The choice of a key, one after the other. Assumes nothing.
-use Rattle.std.proofs.Common.{◌≡◌, ℕ, suc, ◌+◌, ◌≤◌, ◌<◌, Bool, true, false, ◌&&◌, List, [], ◌∷◌, eqb, Option, Some, None, find, refl, sym, ap, ◌∙◌, add-one, lt-ltb, le-ltb, arith}
+use Rattle.std.proofs.Common.{◌≡◌, ℕ, suc, ◌+◌, ◌≤◌, ◌<◌, Bool, true, false, ◌&&◌, List, [], ◌∷◌, eqb, Option, Some, None, refl, sym, ap, ◌∙◌, add-one, lt-ltb, le-ltb, arith}
 use mathlib.Core.Bool.{and-false}
 use Rattle.std.specs.Cmp.Lexicographic.{pointwise}
 use Rattle.text.specs.Bytes.{Text}
 use Rattle.text.specs.Text.{same_text, star_of}
-use Rattle.text.proofs.Picks.{by_test}
 use Rattle.text.proofs.Scans.{same_as_std}
 use Rattle.keys.specs.Keys.{matches_at, key_part, is_match}
 use Rattle.keys.proofs.Laws.{none_told, miss_told, match_told}

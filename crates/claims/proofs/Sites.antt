@@ -6,7 +6,6 @@ use mathlib.Core.Bool.{Bool, true, false, not, ◌&&◌, true≢false}
 use Rattle.std.proofs.lemmas.Iterator.Adapters.{option_map_id}
 use Rattle.std.specs.Prelude.{Some, None, option_map}
 use Prim.Native.Nat.{ℕ}
-use lib.ListN.{get_or}
 use Rattle.text.specs.Bytes.{Text}
 use Rattle.text.specs.Text.{some_of}
 use Rattle.ends.specs.Ends.{parent_of}

@@ -35,8 +35,8 @@ impl Claimant<'_> {
             .any(|s| is_item_matched(self.js, path, self.config.dir, s))
     }
 
-    // Whether the path is one of the config's files. A `match` here and below, and no method of Option: what an arm calls is told of the record, which a
-    // closure would have to say once more.
+    // Whether the path is one of the config's files. A `match` here and below, and no method of Option: what an arm calls is told of the record, which of
+    // a closure would have to be shown once more.
     fn is_in_files(&self, path: &[u8]) -> bool
         ensures { result ≡ named_file path.now ((site_in self.now.config.now).config.named files) }
     {
@@ -80,7 +80,7 @@ impl Claimant<'_> {
 }
 
 // Whether the config allows JavaScript.
-fn allow_js(config: &Config) -> bool
+pub fn allow_js(config: &Config) -> bool
     ensures { result ≡ allow_js (site_in config.now).config }
 {
     match config.supplier(places::ALLOW_JS) {

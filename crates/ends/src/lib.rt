@@ -10,7 +10,7 @@ use components::{lead_len, leads_dot};
 use text::{DOT, SLASH, find_last, from, upto};
 
 // Where the last piece of s begins.
-fn last_start(s: &[u8]) -> usize
+pub fn last_start(s: &[u8]) -> usize
     ensures { result ≡ length s.now - length (last_piece s.now) }
 {
     let Some(i) = find_last(s, SLASH) else {

@@ -3,7 +3,7 @@ use mathlib.Core.Path.{◌≡◌, refl, sym, ap, ap₂, subst, ◌∙◌, fun_ex
 use mathlib.Core.List.{List, [], ◌∷◌, map}
 use Prim.Native.Nat.{ℕ, ◌<◌, ◌≤◌}
 use native.Mathlib.Omega.{arith}
-use lib.ListN.{length, get_or, take, drop, get_or-map, length-map}
+use lib.ListN.{length, get_or, take, get_or-map, length-map}
 use Rattle.text.specs.Bytes.{Text}
 use Rattle.ends.specs.Ends.{parent_of}
 use Rattle.join.specs.Join.{normalize_with}

@@ -66,6 +66,7 @@ pub fn find_meant(paths: &PathTable<'_>, dir: &[u8], s: &[u8]) -> Option<usize>
     requires { (length dir.now ≤ 512) × (length s.now ≤ 512) }
     ensures { result ≡ locate_of (paths_in paths.now) (normalize_with dir.now s.now) }
 {
+    // A `match`, and no `or_else`: of three ways each has its condition in an arm.
     match find_beside(paths, dir, s) {
         Some(i) => Some(i),
         None if dir.len() + s.len() < SHORT => find_joined::<SHORT>(paths, dir, s),

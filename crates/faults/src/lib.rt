@@ -68,7 +68,7 @@ impl<'a> BookText<'a> {
 
 // What a command counts as, where its id and value are in range. That the byte is below 21 is asked here and of what looks it up in a table: a type for it would
 // have to be opened at each.
-fn slot_of(c: Cmd) -> Option<usize>
+pub fn slot_of(c: Cmd) -> Option<usize>
     requires { c.op < 21 }
     ensures { result ≡ slotted c }
 {

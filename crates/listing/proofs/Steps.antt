@@ -1,21 +1,18 @@
 -- The calls that write a listing, one after the other: what each of them is to write, and what is left after it. Assumes nothing.
-use Rattle.std.proofs.Common.{◌≡◌, ℕ, ◌≤◌, List, [], ◌++◌, Option, Some, IfSome, option_map, length, refl, sym, ap, ◌∙◌, append-nil}
+use Rattle.std.proofs.Common.{◌≡◌, ℕ, ◌≤◌, List, [], ◌++◌, Option, Some, length, refl, sym, ap, ◌∙◌, append-nil}
 use Rattle.text.specs.Bytes.{Text, bytes}
 use Rattle.emit.specs.Emit.{Room}
 use Rattle.emit.specs.Output.{Puts}
 use Rattle.emit.specs.declared.Output.{Output}
 use Rattle.emit.proofs.Outputs.{Left, left_all, left_room, left_step, left_end, puts_by}
-use Rattle.ends.specs.Ends.{parent_of}
 use Rattle.book.specs.Command as command
-use Rattle.book.specs.Record.{strings, record_path_of}
+use Rattle.book.specs.Record.{strings}
 use Rattle.record.specs.Read.{read}
 use Rattle.record.specs.Lists.{Record}
 use Rattle.tsconfig.specs.Config as config
 use Rattle.tsconfig.specs.Build.{Settings}
 use Rattle.tsconfig.specs.Listing.{row, rows, items, mapping, if_named, listing}
-use Rattle.tsconfig_resolver.specs.Find.{record_at}
-use Rattle.rows.specs.Rows.{own_place, number_of, site_of, Row, begin_at}
-use Rattle.rows.specs.Checked.{records_in}
+use Rattle.rows.specs.Rows.{own_place}
 use Rattle.rows.specs.declared.Book.{Book}
 use Rattle.fields.specs.Fields.{list_at, roots_at, url_at, place_at, mapping_at}
 use Rattle.options.specs.Options.{options_from, options_part}
@@ -24,7 +21,7 @@ use Rattle.sites.specs.Configs.{Supplied}
 use Rattle.sites.specs.Sites.{record_in, settings_in}
 use Rattle.sites.specs.declared.Config.{Config}
 use Rattle.listing.specs.Parts.{lists_part, places_part, base_part}
-use Rattle.listing.proofs.Whole.{files_part, include_part, exclude_part, url_part, paths_part, roots_part, out_part, declarations_part, own_dir, listing_room, listing_is}
+use Rattle.listing.proofs.Whole.{files_part, include_part, exclude_part, url_part, paths_part, roots_part, out_part, declarations_part, listing_room, listing_is}
 
 -- x is the next of all that o is to have, there is room for it, and y is what is left after it
 pub record Turn (all : Text) (o : Output) (x y : Text) (u : Output) : Type 0 where

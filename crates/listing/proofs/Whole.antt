@@ -7,7 +7,7 @@ use mathlib.Core.Bool.{true, true≢false}
 use Rattle.std.specs.Prelude.{Option, Some, None, option_map, IfSome}
 use Prim.Native.Nat.{ℕ, zero, suc, ◌+◌, ◌*◌, ◌≤◌, ◌<◌}
 use native.Mathlib.Omega.{arith}
-use lib.ListN.{length, get_or, length-append}
+use lib.ListN.{length, length-append}
 use Rattle.text.specs.Bytes.{Text, bytes}
 use Rattle.text.specs.Text.{some_of}
 use Rattle.path.specs.Path.{is_some}
@@ -35,7 +35,7 @@ use Rattle.lines.specs.Lines.{built_place}
 use Rattle.fields.specs.Fields.{list_at, roots_at, url_at, place_at, mapping_at}
 use Rattle.options.specs.Options.{text_at, options_part}
 use Rattle.sites.specs.Configs.{Supplied}
-use Rattle.options.proofs.Suppliers.{config_in, none_at, some_at, plain_at, text_said, options_said}
+use Rattle.options.proofs.Suppliers.{config_in, none_at, some_at, plain_at, text_said}
 use Rattle.listing.specs.Parts.{lists_part, places_part, base_part}
 use Rattle.listing.proofs.Sizes.{Fits, row_length, references_size, list_size, roots_size, url_size, place_size, mapping_size, text_size, flag_line}
 use Rattle.emit.specs.Emit.{Room}

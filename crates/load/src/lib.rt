@@ -88,6 +88,7 @@ impl Loads<'_> {
         requires { BringPre self.old on v }
         ensures { Tells self.old on v (reach on self.old) (recall ((state self.old).table v) (load_of (seen (records_of self.old)) (on_of on) v) (state self.old)) self.new result }
     {
+        // A `match`, and no method of Option: a closure would hold the whole load.
         match self.table[v] {
             Some(row) => Ok(row),
             None => self.load(on, v),

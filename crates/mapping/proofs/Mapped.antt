@@ -11,7 +11,7 @@ use Rattle.keys.specs.Keys.{suffix, matches_at, part_at, key_part, is_match}
 use Rattle.book.specs.declared.Cmd.{Cmd}
 use Rattle.book.specs.Command.{key}
 use Rattle.book.specs.Record.{Key, is, keys_of}
-use Rattle.book.specs.Sound.{All, nil, cons, Good}
+use Rattle.book.specs.Sound.{All, nil, cons}
 use Rattle.record.specs.Read.{is_short}
 use Rattle.tsconfig.specs.Build.{adjusted}
 use Rattle.tsconfig.specs.Laid.{laid}

@@ -1,6 +1,6 @@
 -- The aliases and the candidates of a row's config. Assumes nothing.
 use Rattle.book.specs.Index.{begin_of}
-use Rattle.std.proofs.Common.{◌≡◌, ℕ, ◌≤◌, ◌<◌, Bool, true, false, List, [], ◌∷◌, map, length, get_or, Option, Some, None, IfSome, option_map, refl, sym, ap, ◌∙◌, true≢false, arith}
+use Rattle.std.proofs.Common.{◌≡◌, ℕ, ◌≤◌, ◌<◌, Bool, true, false, List, [], ◌∷◌, map, length, Option, Some, None, option_map, refl, sym, ap, ◌∙◌, true≢false, arith}
 use Rattle.std.proofs.lemmas.List.{nil_from_length}
 use Rattle.path.proofs.Strip.{some_map}
 use Rattle.text.specs.Bytes.{Text, dot}

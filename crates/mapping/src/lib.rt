@@ -55,6 +55,7 @@ pub fn put_aliases(out: &mut Output, built: &Built, spec: &[u8]) -> usize
     if starts_dot(spec) {
         return 0;
     }
+    // A `match` here and below, and no method of Option: the arms write to the output.
     match built.config.supplier(places::PATHS) {
         Some(record) => put_mapped(out, built, &record, spec),
         None => 0,

@@ -44,6 +44,15 @@ pub fn is_met(text: &[u8], rows: &[Seen], s: &[u8], mark: u8) -> bool
     })
 }
 
+// Whether one of the rows' keys is s, whose digest is given. The last row is looked at first.
+pub fn is_known(text: &[u8], rows: &[Seen], s: &[u8], mark: u8) -> bool
+    requires seen { AllSeen text.now rows.now }
+    requires mark_value { mark ≡ digest_of s.now }
+    ensures { result ≡ some_of (meets false s.now) (texts text.now rows.now) }
+{
+    rows.iter().rev().any(|row| row.mark == mark && s == piece(text, row.start, row.len))
+}
+
 // The keys of a record that were seen, 32 at most. No ArrayVec: the crates stand over std alone.
 // The marks stand also by themselves, where one look tells that a digest is none of them: without that a check at the limits takes 7 in 100 more instructions.
 #[derive(Drop)]
@@ -96,9 +105,7 @@ impl Keys {
         requires mark_value { mark ≡ digest_of s.now }
         ensures { result ≡ some_of (meets false s.now) (texts text.now self.now) }
     {
-        self.marks.contains(&mark)
-            && self.rows[..self.len].iter().rev().any(|row| row.mark == mark
-                && s == piece(text, row.start, row.len))
+        self.marks.contains(&mark) && is_known(text, &self.rows[..self.len], s, mark)
     }
 }
 

@@ -1,8 +1,8 @@
 -- What a row's config says of a field, read at the record that supplies it. Assumes nothing.
 use Rattle.book.specs.Index.{begin_of}
 use Rattle.book.specs.declared.IndexRow.{IndexRow}
-use Rattle.std.proofs.Common.{length, ◌≡◌, ℕ, suc, ◌+◌, ◌-◌, ◌<◌, ◌≤◌, List, [], ◌++◌, Bool, true, get_or, Option, Some, None, refl, sym, ap, ap₂, ◌∙◌, arith, add-one, zero}
-use Rattle.std.specs.Prelude.{cond, option_map, IfSome}
+use Rattle.std.proofs.Common.{◌≡◌, ℕ, suc, ◌+◌, ◌-◌, ◌<◌, ◌≤◌, List, [], ◌++◌, Bool, true, Option, Some, None, refl, sym, ap, ap₂, ◌∙◌, arith, add-one, zero}
+use Rattle.std.specs.Prelude.{cond, option_map}
 use mathlib.Core.List.{append_assoc}
 use Rattle.text.specs.Bytes.{Text, bytes}
 use Rattle.ends.specs.Ends.{parent_of}
@@ -13,7 +13,7 @@ use Rattle.tsconfig.specs.Config.{Field, flag, text}
 use Rattle.tsconfig.specs.Parsed.{said, placed_value}
 use Rattle.tsconfig.specs.Build.{Settings, built_value}
 use Rattle.tsconfig.specs.Listing.{row, if_named, flag_row, text_row, flags, texts}
-use Rattle.rows.specs.Rows.{absent, slot, number_of, site_of, Row, begin_at}
+use Rattle.rows.specs.Rows.{slot, number_of, site_of, Row, begin_at}
 use Rattle.rows.specs.Records.{dir_of}
 use Rattle.rows.specs.Checked.{records_in}
 use Rattle.rows.specs.declared.Book.{Book}

@@ -19,7 +19,7 @@ use Rattle.book.specs.Find.{locate}
 use Rattle.book.specs.Index.{AcceptedAs}
 use Rattle.book.specs.declared.Refusal.{Refusal}
 use Rattle.book.specs.declared.IndexRow.{IndexRow}
-use Rattle.book.specs.Refusals.{number_of, refusal}
+use Rattle.book.specs.Refusals.{refusal}
 use Rattle.records.specs.Tables.{paths_in}
 use Rattle.records.proofs.Paths.{locate_within}
 use Rattle.tsconfig.specs.Parsed.{Parsed}

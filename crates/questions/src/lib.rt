@@ -43,10 +43,7 @@ fn open_book<'a>(
 fn is_asked(path: &[u8], directory: Option<&[u8]>, specifier: &[u8]) -> bool
     ensures { result ≡ asked_for path.now (option_copied directory.entry) specifier.now }
 {
-    let from_there = match directory {
-        Some(d) => is_asked_path(d),
-        None => true,
-    };
+    let from_there = directory.is_none_or(|d| is_asked_path(d));
     is_asked_path(path) && from_there && is_string(specifier)
 }
 

@@ -1,5 +1,5 @@
 -- Laws of what is read from a place: its strings are short, and so they are from each later place on. Assumes nothing.
-use Rattle.std.proofs.Common.{◌≡◌, ℕ, ◌+◌, ◌≤◌, Bool, true, List, [], ◌∷◌, ◌++◌, length, take, drop, Option, Some, None, Bor, refl, sym, ap, subst, ◌∙◌, le-leb, length-take, length-drop, arith}
+use Rattle.std.proofs.Common.{◌≡◌, ℕ, ◌+◌, ◌≤◌, Bool, true, List, [], ◌∷◌, ◌++◌, length, drop, Option, Some, None, Bor, refl, sym, ap₂, subst, ◌∙◌, le-leb, length-take, length-drop, arith}
 use Rattle.std.proofs.lemmas.Bool.{and_parts}
 use Rattle.std.specs.Prelude.{option_copied, unwrap_or, ◌&&◌}
 use lib.Dec.{leb}
@@ -100,14 +100,13 @@ module _ (most : ℕ) (text s : Text) (at : ℕ) (h : each_of (is_short most tex
 
 -- what a record's path is, and its directory
 
-module _ (text s : Text) (at : ℕ) (r : Option (Bor Text)) (v : option_copied r ≡ single text begin (read s at)) where
-  pub path_none : r ≡ None → [] ≡ record_path_of text (read s at)
-  unfolding record_path_of
-  path_none e = sym (ap (λ (o : Option Text). unwrap_or o []) (sym v ∙ ap option_copied e))
+copied_or : (r : Option (Bor Text)) (d : Bor Text) → (unwrap_or r d).now ≡ unwrap_or (option_copied r) d.now
+copied_or None d = refl
+copied_or (Some x) d = refl
 
-  pub path_some : {x : Bor Text} → r ≡ Some x → x.now ≡ record_path_of text (read s at)
-  unfolding record_path_of
-  path_some e = sym (ap (λ (o : Option Text). unwrap_or o []) (sym v ∙ ap option_copied e))
+pub path_is : (text s : Text) (at : ℕ) (r : Option (Bor Text)) → option_copied r ≡ single text begin (read s at) → (d : Bor Text) → d.now ≡ [] → (unwrap_or r d).now ≡ record_path_of text (read s at)
+unfolding record_path_of
+path_is text s at r v d e = copied_or r d ∙ ap₂ (λ (o : Option Text) (t : Text). unwrap_or o t) v e
 
 pub dir_short : (most : ℕ) (p : Text) → length p ≤ most → length (parent_of p) ≤ most
 dir_short most p h = omega (arith, h, parent_le p)

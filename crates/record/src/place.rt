@@ -50,10 +50,7 @@ impl<'a, const MOST: usize> Place<'a, MOST> {
         ensures value { result.now ≡ record_path_of self.now.text.now (read self.now.commands.now self.now.at) }
         ensures short { length result.now ≤ MOST }
     {
-        match self.string(BEGIN) {
-            Some(path) => path,
-            None => b"",
-        }
+        self.string(BEGIN).unwrap_or(b"")
     }
 
     // Its directory.

@@ -104,7 +104,7 @@ module _ (part : Text) (base : ℕ) (text : Text) (rows : List Seen) {ns : List 
 -- a key that was not taken is not fine
 pub left_key : (part text : Text) (ns : List ℕ) (last at : ℕ) (ks : List Seen) {ns' : List ℕ} {last' to : ℕ} {ks' : List Seen} → Taken part text ns last at ks ns' last' to ks' → to ≤ at →
     (c : Cmd) (nx : ℕ) → Ok (c, nx) ≡ step_at part at → c.op ≡ key → key_fine part at text ns' ks' ≡ false
-left_key part text ns last at ks (passed o p) h c nx is k = absurd (o (sym (standing part at c nx is).byte ∙ k))
+left_key part text ns last at ks (passed o p _) h c nx is k = absurd (o (sym (standing part at c nx is).byte ∙ k))
 left_key part text ns last at ks (keyed byte fine) h c nx is k = absurd (omega (arith, h))
 left_key part text ns last at ks (barred f) h c nx is k = f
 

@@ -20,7 +20,7 @@ passed_forth part text ns last at still = omega arith
 passed_forth part text ns last at (more {at' = p} {c = c} {nx = nx} x e u) = omega (arith, passed_forth part text ns last at x, (step_moves part p c nx (sym e)).forth)
 
 back : (part text : Text) (ns : List ℕ) (last at : ℕ) (ks : List Seen) {ns' : List ℕ} {last' to : ℕ} {ks' : List Seen} → Taken part text ns last at ks ns' last' to ks' → to ≤ at → to ≡ at
-back part text ns last at ks (passed o p) h = omega (arith, h, passed_forth part text ns last at p)
+back part text ns last at ks (passed o p _) h = omega (arith, h, passed_forth part text ns last at p)
 back part text ns last at ks (keyed byte fine) h = absurd (omega (arith, h))
 back part text ns last at ks (barred f) h = refl
 
@@ -45,7 +45,7 @@ module _ (part : Text) (base : ℕ) (text : Text) (rows : List Seen) where
 
     -- commands were taken
     pub moved_on : {ns' : List ℕ} {last' to : ℕ} {ks' : List Seen} → Taken part text ns last at ks ns' last' to ks' → Sofar part base text rows ns' last' ks' to
-    moved_on (passed o p) = passed_on p
+    moved_on (passed o p _) = passed_on p
     moved_on (keyed byte fine) = key_on byte fine
     moved_on (barred f) = s
 

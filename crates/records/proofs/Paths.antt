@@ -6,7 +6,6 @@ use Rattle.std.specs.Prelude.{Option, Some, None, option_map}
 use Prim.Native.Nat.{ℕ, zero, suc, ◌+◌, ◌-◌, ◌≤◌, ◌<◌}
 use native.Mathlib.Omega.{arith}
 use native.Mathlib.Numerals.{add-one}
-use native.Mathlib.Nat.{add-zero}
 use lib.ListN.{length, get_or, take, drop, length-append, length-map, length-take, drop_of_length-le, get_or-append}
 use Rattle.std.proofs.lemmas.List.{get_or-map}
 use lib.Seq.{drop-cons, get_or-take, get_or-drop, length-take-le}

@@ -228,6 +228,7 @@ impl<'a> PathTable<'a> {
     pub fn locate(&self, p: &[u8]) -> Option<usize>
         ensures { result ≡ locate (paths_in self.now) p.now }
     {
+        // A `match`, and no `or_else`: of three ways each has its condition in an arm.
         match self.find(p) {
             Some(i) => Some(i),
             None if self.is_dir(p) => self.config_in(p),

@@ -1,6 +1,6 @@
 -- A merged config as the code holds it: a row of record numbers, one for each field and one for the base, and the record's own number. A value is
 -- what its supplier says.
-use Rattle.std.specs.Prelude.{ℕ, ◌+◌, ◌<◌, ◌≡◌, List, [], true, cond, eqb, ltb, length, get_or}
+use Rattle.std.specs.Prelude.{ℕ, ◌+◌, ◌<◌, ◌≡◌, List, true, cond, eqb, ltb, length, get_or}
 use Rattle.path.specs.Path.{is_some}
 use Rattle.std.specs.Prelude.{Option, Some, None}
 use Rattle.book.specs.Index.{begin_of}

@@ -1,5 +1,5 @@
 -- There is one proof at most of what an accepted book's tables say.
-use Rattle.std.specs.Prelude.{ℕ, Bool, List, [], ◌∷◌, refl}
+use Rattle.std.specs.Prelude.{Bool, List, [], ◌∷◌, refl}
 use Rattle.std.specs.Prelude.{Option}
 use Rattle.std.specs.Coded.{Coded, Coded-set, code_by, coded×, coded_ℕ, coded_bool, coded_list, coded_option, le_prop}
 use mathlib.Core.Path.{ap₂}

@@ -21,11 +21,12 @@ pub fn site_number(row: &[u8]) -> usize
 }
 
 // The directory of the row's own record, in which its config is built.
-fn site_dir<'a>(book: &Book<'a>, row: &[u8]) -> &'a [u8]
+pub fn site_dir<'a>(book: &Book<'a>, row: &[u8]) -> &'a [u8]
     requires { Row (records_in book.now) row.now }
     ensures value { result.now ≡ parent_of (site_at book.now row.now).path }
     ensures short { length result.now ≤ 512 }
 {
+    // A `match` here and below, and no method of Option: what the arm calls is told of the record, which of a closure would have to be shown once more.
     match book.supplier(row, places::OWN) {
         Some(own) => own.dir(),
         None => b"",
@@ -67,7 +68,7 @@ impl<'a> Config<'a> {
     }
 
     // The built base.
-    fn base(&self, buffer: &'a mut [u8]) -> &'a [u8]
+    pub fn base<'b>(&self, buffer: &'b mut [u8]) -> &'b [u8]
         requires { 1600 ≤ length buffer.old }
         ensures value { result.now ≡ (site_in self.now).config.base }
         ensures short { length result.now ≤ 1600 }
@@ -89,7 +90,7 @@ pub struct Built<'a> {
 }
 
 impl<'a> Built<'a> {
-    // A config, the base of which is built in the buffer where it is not a part of the text.
+    // A config, the base of which is built in the buffer.
     pub fn new(config: Config<'a>, buffer: &'a mut [u8]) -> Built<'a>
         requires { 1600 ≤ length buffer.old }
         ensures book { result.config.book.now ≡ config.entry.book.now }

@@ -1,9 +1,8 @@
 -- The tries in root dirs, and those of a row's config. Assumes nothing.
-use Rattle.std.proofs.Common.{◌≡◌, ℕ, ◌+◌, Bool, true, false, List, [], ◌∷◌, ◌++◌, Option, Some, None, option_map, refl, sym, ap, ◌∙◌, append-nil, length-append, true≢false, arith}
+use Rattle.std.proofs.Common.{◌≡◌, ℕ, ◌+◌, Bool, true, false, List, [], ◌++◌, Option, Some, None, option_map, refl, sym, ap, ◌∙◌, length-append, true≢false, arith}
 use Rattle.text.specs.Bytes.{Text, dot}
 use Rattle.text.specs.Text.{some_of}
 use Rattle.text.proofs.Picks.{by_test}
-use Rattle.emit.specs.Output.{Puts}
 use Rattle.emit.specs.declared.Output.{Output}
 use Rattle.emit.proofs.Outputs.{puts_both}
 use Rattle.components.specs.Components.{starts, inside_node_modules}
@@ -17,11 +16,9 @@ use Rattle.record.specs.Read.{read}
 use Rattle.tsconfig.specs.Config.{base_url, root_dirs}
 use Rattle.tsconfig.specs.Parsed.{placed, placed_value, said}
 use Rattle.tsconfig.specs.Build.{Settings, substituted, built_value}
-use Rattle.tsconfig.specs.Laid.{laid}
 use Rattle.tsconfig.specs.Mapping.{aliases, from_base_url, root_tries, tries}
-use Rattle.rows.specs.Rows.{slot, begin_at, Row}
+use Rattle.rows.specs.Rows.{slot, begin_at}
 use Rattle.rows.specs.Records.{dir_of}
-use Rattle.rows.specs.Checked.{records_in}
 use Rattle.rows.specs.declared.Book.{Book}
 use Rattle.rows.proofs.Fields.{site_none, site_at_lem}
 use Rattle.targets.specs.Targets.{Lists}

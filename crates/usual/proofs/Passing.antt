@@ -125,9 +125,19 @@ recast part text ns₀ last at a b d x = rw (← a, ← b, ← d) x
 head_byte : (part : Text) (at : ℕ) → at < length part → get_or (drop at part) 0 0 ≡ get_or part at 0
 head_byte part at h = rw (drop-cons part at 0 h) refl
 
+-- the last command's byte, where nothing is taken and where something is
+
+pub last_still : (at last x l : ℕ) → l ≡ last → l ≡ cond (eqb at at) last x
+last_still at last x l e = rw (eq-eqb at at refl) e
+
+pub last_on : (at to : ℕ) → at < to → (last x l : ℕ) → l ≡ x → l ≡ cond (eqb to at) last x
+last_on at to h last x l e = rw (ne_eqb to at (λ q. omega (arith, h, q))) e
+
 -- what holds before each command of a run
 pub record Running (part text : Text) (ns₀ : List ℕ) (last₀ at op : ℕ) (ns : List ℕ) (last m to : ℕ) : Type 0 where
   pub passed : Passed part text ns₀ last₀ at ns last to
+  pub latest : last ≡ cond (eqb to at) last₀ op
+  pub forth : at ≤ to
   pub follow : (not (eqb op target) || (eqb last key || eqb last target)) ≡ true
   pub unlocked : (eqb (get_or openers op 0) 0 || not (eqb (has ns (get_or openers op 0)) 0)) ≡ true
   pub count : m ≡ has ns op
@@ -149,6 +159,8 @@ module _ (part text : Text) (ns₀ : List ℕ) (last at : ℕ) where
     run_none l h k q =
         record {
           passed = still;
+          latest = last_still at last op last refl;
+          forth = omega arith;
           follow = now.follow;
           unlocked = now.unlocked;
           count = ap (λ (i : ℕ). get_or ns₀ i 0) q;
@@ -203,6 +215,8 @@ module _ (part text : Text) (ns₀ : List ℕ) (last at : ℕ) where
           run_here : Running part text ns₀ last at op (set ns op (m + 1)) op (m + 1) (to + 5)
           run_here =
               record {
+                latest = last_on at (to + 5) (omega (arith, s.forth)) last op op refl;
+                forth = omega (arith, s.forth);
                 passed = recast part text ns₀ last at counted (sym op_is) (omega arith) (more s.passed reads taken);
                 follow = by_test (eqb op target) (λ e. rw e (or-true (eqb op key))) (λ e. rw e refl);
                 unlocked = rw (get_or-set_other ns op (get_or openers op 0) (m + 1) 0 another) s.unlocked;
@@ -219,6 +233,9 @@ module _ (part text : Text) (ns₀ : List ℕ) (last at : ℕ) where
       (ns : List ℕ) (nv : ns ≡ cond (once ns₀ k) (set ns₀ k 1) ns₀) (x l : ℕ) (lv : l ≡ cond (once ns₀ k) x last) where
     pub once_not : b ≡ false → Passed part text ns₀ last at ns l at
     once_not f = recast part text ns₀ last at (sym (nv ∙ rw (← bv, f) refl)) (sym (lv ∙ rw (← bv, f) refl)) refl still
+
+    pub last_kept : b ≡ false → l ≡ cond (eqb at at) last x
+    last_kept f = last_still at last x l (lv ∙ rw (← bv, f) refl)
 
     module _ (yes : b ≡ true) where
       pub begun_here : eqb (has ns₀ begin) 0 ≡ false

@@ -70,7 +70,8 @@ fn most_now(tally: &Tally, op: u8) -> u8
 // themselves, here and below: the tally alone is changed, and the record checker goes on with each of the three.
 fn pass_run(text: &[u8], part: &[u8], at: usize, tally: &mut Tally, op: u8) -> usize
     requires { (at ≤ length part.now) × (tame_text text.now ≡ true) }
-    ensures { Passed part.now text.now tally.old.counts tally.old.last at tally.new.counts tally.new.last result }
+    ensures passed { Passed part.now text.now tally.old.counts tally.old.last at tally.new.counts tally.new.last result }
+    ensures last { tally.new.last ≡ cond (eqb result at) tally.old.last op }
 {
     let most = most_now(tally, op);
     if most == 0 {
@@ -108,7 +109,8 @@ fn is_counted(tally: &mut Tally, op: u8, k: usize) -> bool
 // Takes the flag at the offset, where its id and its value are in range and it comes for the first time. The offset after it.
 fn pass_flag(part: &[u8], at: usize, tally: &mut Tally) -> usize
     requires { (at < length part.now) × (get_or part.now at 0 ≡ flag) }
-    ensures { (text : List ℕ) → Passed part.now text tally.old.counts tally.old.last at tally.new.counts tally.new.last result }
+    ensures passed { (text : List ℕ) → Passed part.now text tally.old.counts tally.old.last at tally.new.counts tally.new.last result }
+    ensures last { tally.new.last ≡ cond (eqb result at) tally.old.last flag }
 {
     if part.len() - at < FLAG_STRIDE || LAST_FLAG < part[at + 1] || 1 < part[at + 2] {
         return at;

@@ -76,8 +76,12 @@ module _ (dir own s : Text) where
     pub build_kept : prefix_of config_dir (normalize_with own s) ≡ false → normalize_with own s ≡ substituted dir (placed own s)
     build_kept g = sym (build_read ∙ unled dir (normalize_with own s) g)
 
-    pub build_again : prefix_of config_dir (normalize_with own s) ≡ true → in_config_dir dir (normalize_with own s) ≡ substituted dir (placed own s)
-    build_again g = sym (build_read ∙ led dir (normalize_with own s) g)
+    read_is : placed own s ≡ normalize_with own s
+    unfolding placed
+    read_is = rw f
+
+    pub build_again : prefix_of config_dir (normalize_with own s) ≡ true → in_config_dir dir (placed own s) ≡ substituted dir (placed own s)
+    build_again g = sym (led dir (placed own s) (rw read_is g))
 
 -- The base that a record sets: its baseUrl, else its directory
 

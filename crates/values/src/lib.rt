@@ -25,6 +25,7 @@ const CONFIG_DIR_LEN: usize = 12;
 fn without_slashes(s: &[u8]) -> &[u8]
     ensures { result.now ≡ without_slashes s.now }
 {
+    // A `match`, and no method of Option: a closure would have to say once more that the place lies in s.
     match s.iter().position(|x| *x != SLASH) {
         Some(i) => &s[i..],
         None => b"",
@@ -50,15 +51,36 @@ fn in_config_dir<'a>(dir: &[u8], s: &[u8], buffer: &'a mut [u8]) -> &'a [u8]
     path.into_text()
 }
 
+// s as it is, in a buffer.
+fn copy<'a>(s: &[u8], buffer: &'a mut [u8]) -> &'a [u8]
+    requires { length s.now ≤ length buffer.old }
+    ensures { result.now ≡ s.now }
+{
+    let mut text = Output::new(buffer);
+    text.put_text(s);
+    text.into_text()
+}
+
 // s with a leading `${configDir}` replaced by the directory.
-pub fn substitute<'a>(dir: &[u8], s: &'a [u8], buffer: &'a mut [u8]) -> &'a [u8]
+pub fn substitute<'a>(dir: &[u8], s: &[u8], buffer: &'a mut [u8]) -> &'a [u8]
     requires { length dir.now + 1 + length s.now ≤ length buffer.old }
     ensures { result.now ≡ substituted dir.now s.now }
 {
     if has_config_dir(s) {
         return in_config_dir(dir, s, buffer);
     }
-    s
+    copy(s, buffer)
+}
+
+// s as it is where `${configDir}` leads, else read from the directory.
+pub fn place<'a>(dir: &[u8], s: &[u8], buffer: &'a mut [u8]) -> &'a [u8]
+    requires { length dir.now + 1 + length s.now ≤ length buffer.old }
+    ensures { result.now ≡ placed dir.now s.now }
+{
+    if has_config_dir(s) {
+        return copy(s, buffer);
+    }
+    normalize_with(dir, s, buffer)
 }
 
 // s with a leading `${configDir}` replaced by the directory, else read from the base.
@@ -73,16 +95,16 @@ pub fn adjust<'a>(dir: &[u8], base: &[u8], s: &[u8], buffer: &'a mut [u8]) -> &'
     normalize_with(base, s, buffer)
 }
 
-// s read from a record's own directory, in which a `${configDir}` leads: what follows it, joined to the built config's directory.
+// s placed in a record's own directory, where a `${configDir}` leads what that gives: what follows it, joined to the built config's directory.
 fn put_led(path: &mut Output, dir: &[u8], own: &[u8], s: &[u8])
     requires empty { path.old.at ≡ 0 }
     requires own { length own.now ≤ 512 }
     requires s { length s.now ≤ 512 }
     requires room { length dir.now + length own.now + length s.now + 2 ≤ length path.old.bytes.now }
-    ensures { Becomes (in_config_dir dir.now (normalize_with own.now s.now)) path.old path.new }
+    ensures { Becomes (in_config_dir dir.now (placed own.now s.now)) path.old path.new }
 {
     let mut buffer = [0u8; 1100];
-    let placed = normalize_with(own, s, &mut buffer);
+    let placed = place(own, s, &mut buffer);
     put_in_config_dir(path, dir, placed);
 }
 
@@ -107,13 +129,14 @@ pub fn build_place<'a>(dir: &[u8], own: &[u8], s: &[u8], buffer: &'a mut [u8]) -
 }
 
 // The paths base that a record sets by itself, as the config in the directory is built: its baseUrl, else its directory.
-pub fn base_of<'a>(record: &Record<'a>, dir: &'a [u8], buffer: &'a mut [u8]) -> &'a [u8]
+pub fn base_of<'a>(record: &Record, dir: &[u8], buffer: &'a mut [u8]) -> &'a [u8]
     requires dir { length dir.now ≤ 512 }
     requires room { 1600 ≤ length buffer.old }
     ensures value { result.now ≡ substituted dir.now (own_base (parent_of (record_path_of record.now.text.now (read record.now.commands.now record.now.at))) (single record.now.text.now base_url (read record.now.commands.now record.now.at))) }
     ensures short { length result.now ≤ 1600 }
 {
     let own = record.dir();
+    // A `match`, and no method of Option: the buffer is lent to the one arm or the other.
     match record.string(BASE_URL) {
         Some(url) => build_place(dir, own, url, buffer),
         None => substitute(dir, own, buffer),

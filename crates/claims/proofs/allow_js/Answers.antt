@@ -1,4 +1,3 @@
-use Rattle.std.proofs.Common.{arith}
 use Rattle.tsconfig.specs.Config.{flag}
 use Rattle.rows.specs.Rows.{slot}
 use Rattle.claims.proofs.Sites.{field_none, flag_some}

@@ -1,4 +1,3 @@
-use Rattle.std.proofs.Common.{get_or}
 use Rattle.book.specs.Command.{extends}
 use Rattle.book.specs.Index.{begin_of, record_at}
 use Rattle.book.specs.Record.{strings}

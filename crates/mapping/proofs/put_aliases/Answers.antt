@@ -1,4 +1,3 @@
-use Rattle.std.proofs.Common.{arith}
 use Rattle.mapping.proofs.Sites.{dotted, unmapped, mapped, lists_empty}
 use Rattle.mapping.proofs.put_aliases.Goals as goal
 

@@ -1,11 +1,8 @@
 use mathlib.Core.Path.{◌≡◌, sym, ap, ◌∙◌}
 use Prim.Native.Nat.{◌+◌}
 use borrow.Author.Rules.{rules}
-use Rattle.std.specs.Prelude.{Result, Err, Some}
-use Rattle.std.specs.Result.{IfOk}
-use Rattle.book.specs.declared.Fault.{Fault}
+use Rattle.std.specs.Prelude.{Err}
 use Rattle.book.specs.declared.Fault.TheVariants.{Broken, GivenBefore}
-use Rattle.book.specs.State.{slotted}
 use Rattle.record_checker.proofs.Mapped.{mapped_ok, mapped_err}
 use native.Mathlib.Omega.{arith}
 use Rattle.book.specs.Refusals.{told}

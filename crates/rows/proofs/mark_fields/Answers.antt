@@ -1,4 +1,4 @@
-use Rattle.std.proofs.Common.{◌∙◌, ap, refl, arith}
+use Rattle.std.proofs.Common.{◌∙◌, ap, arith}
 use lib.ListN.{length-set}
 use Rattle.items.specs.declared.Commands.{Commands}
 use Rattle.rows.proofs.Own.{marks_start, marks_over, marks_on, marks_past}

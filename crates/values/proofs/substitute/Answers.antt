@@ -7,4 +7,4 @@ returns-then-has_config_dir c = rw (← c.has_config_dir.ensures, c.if-has_confi
 
 pub returns : goal.returns
 unfolding substituted
-returns c = rw (← c.has_config_dir.ensures, c.if-has_config_dir.false)
+returns c = rw (← c.has_config_dir.ensures, c.if-has_config_dir.false) c.copy.ensures

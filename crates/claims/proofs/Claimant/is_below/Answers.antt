@@ -1,4 +1,3 @@
-use Rattle.std.proofs.Common.{arith}
 use Rattle.path.specs.Path.{is_some}
 use Rattle.tsconfig.specs.Config.{files}
 use Rattle.tsconfig.specs.Claims.{included}

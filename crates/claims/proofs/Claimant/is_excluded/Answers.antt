@@ -1,4 +1,3 @@
-use Rattle.std.proofs.Common.{arith}
 use Rattle.tsconfig.specs.Config.{exclude}
 use Rattle.tsconfig.specs.Claims.{excluded}
 use Rattle.rows.specs.Rows.{slot}

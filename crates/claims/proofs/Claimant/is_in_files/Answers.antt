@@ -1,4 +1,4 @@
-use Rattle.std.proofs.Common.{◌∙◌, rules, tests, arith}
+use Rattle.std.proofs.Common.{◌∙◌, rules, tests}
 use Rattle.std.proofs.lemmas.Iterator.Search.{any_from_yields_List}
 use Rattle.text.specs.Bytes.{Text}
 use Rattle.text.proofs.Scans.{some_as_std}

@@ -1,4 +1,4 @@
-use Rattle.std.proofs.Common.{◌∙◌, ap, sym, arith}
+use Rattle.std.proofs.Common.{◌∙◌, ap, sym}
 use Rattle.tsconfig.specs.Config.{include}
 use Rattle.tsconfig.specs.Claims.{included}
 use Rattle.rows.specs.Rows.{slot}

@@ -1,5 +1,4 @@
 use mathlib.Core.Path.{ap, ◌∙◌}
-use Rattle.strings.specs.Scan.{tame_text}
 use Rattle.book.specs.Rules.{own_rule}
 use Rattle.faults.proofs.Keeps.{tame_string}
 use Rattle.faults.proofs.Arms.{own_begin, own_pattern, own_lead, own_none}
