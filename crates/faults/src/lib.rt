@@ -33,13 +33,13 @@ pub struct BookText<'a> {
 }
 
 impl<'a> BookText<'a> {
-    // Whether a command's string keeps the rule of its own that it has. Inlined, and `is_held` too, for `is_good` is.
+    // Whether s, a part of the text, keeps the rule that a command with the byte op has for its string. Inlined, and `is_held` too, for `is_good` is.
     #[inline(always)]
-    fn own_rule(&self, c: Cmd) -> bool
-        ensures { result ≡ own_rule c.op (text_of self.now.bytes.now c) }
+    fn own_rule(&self, op: u8, s: &[u8]) -> bool
+        requires { self.now.tame ≡ true → tame_text s.now ≡ true }
+        ensures { result ≡ own_rule op s.now }
     {
-        let s = string_of(self.bytes, c);
-        match c.op {
+        match op {
             BEGIN => is_record_path_of(self.tame, s),
             INCLUDE_ITEM | EXCLUDE_ITEM => is_pattern_of(self.tame, s),
             EXTENDS | REFERENCE => obeys_lead(s),
@@ -62,7 +62,7 @@ impl<'a> BookText<'a> {
     pub fn is_good(&self, c: Cmd) -> bool
         ensures { result ≡ good_string self.now.bytes.now c }
     {
-        self.is_held(c) && self.own_rule(c)
+        self.is_held(c) && self.own_rule(c.op, &self.bytes[c.start..c.start + c.len])
     }
 }
 

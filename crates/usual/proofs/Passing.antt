@@ -4,10 +4,10 @@ use Rattle.std.proofs.lemmas.Bool.{and_parts}
 use mathlib.Core.List.{List, [], ◌∷◌}
 use mathlib.Core.Bool.{Bool, true, false, not, ◌&&◌, ◌||◌, cond, or-true}
 use Rattle.std.specs.Prelude.{Some, None}
-use Prim.Native.Nat.{ℕ, ◌+◌, ◌-◌, ◌≤◌, ◌<◌}
+use Prim.Native.Nat.{ℕ, zero, suc, ◌+◌, ◌*◌, ◌-◌, ◌≤◌, ◌<◌}
 use native.Mathlib.Omega.{arith}
 use lib.ListN.{length, get_or, set, drop, length-set}
-use lib.Seq.{drop-cons, get_or-set_same, get_or-set_other}
+use lib.Seq.{drop-cons, get_or-set_same, get_or-set_other, set-set}
 use lib.Dec.{T, eqb, leb, ltb}
 use types.Run.{OneOf}
 use borrow.Author.Tests.{eq-eqb, ne_eqb, le-leb, lt-leb, eqb-true, eqb-false, leb-false, ltb-true, lt-ltb, not-true}
@@ -43,6 +43,15 @@ module _ (part : Text) (at : ℕ) (text : Text) (op : ℕ) where
   pub fit_on : 5 ≤ length part - at → get_or part at 0 ≡ op → (c : Cmd) → c ≡ operands 4 (drop at part) → (r : Bool) → r ≡ good_string text c → r ≡ fitting part at text op
   unfolding fitting
   fit_on h e c d r g = rw (lt-leb (length part - at) 4 (omega (arith, h)), eq-eqb _ _ e, ← d) g
+
+-- a command that fits lies within what is read
+pub fit_ends : (part : Text) (at : ℕ) (text : Text) (op : ℕ) → fitting part at text op ≡ true → at + 5 ≤ length part
+unfolding fitting
+fit_ends part at text op e = let z = leb-false (length part - at) 4 (not-true _ (and_parts (not (leb (length part - at) 4)) _ e).0) in omega (arith, z)
+
+-- one more that fits, behind n that do
+pub fit_more : (part : Text) (at : ℕ) (text : Text) (op n : ℕ) → ((i : ℕ) → i < n → fitting part (at + 5 * i) text op ≡ true) → fitting part (at + 5 * n) text op ≡ true → (i : ℕ) → i < n + 1 → fitting part (at + 5 * i) text op ≡ true
+fit_more part at text op n f e i h = by_test (eqb i n) (λ y. rw (eqb-true i n y) e) (λ y. f i (let z = eqb-false i n y in omega (arith, h, z)))
 
 pub read_op : (part : Text) (at op : ℕ) (c : Cmd) → at < length part → get_or part at 0 ≡ op → c ≡ operands 4 (drop at part) → c.op ≡ op
 unfolding operands
@@ -144,6 +153,10 @@ pub record Running (part text : Text) (ns₀ : List ℕ) (last₀ at op : ℕ) (
   pub size : length ns ≡ 39
   pub place : to ≤ length part
 
+-- the same at numbers that are equal
+moved : {part text : Text} {ns₀ : List ℕ} {last at op : ℕ} {ns : List ℕ} {l m m' to to' : ℕ} → m ≡ m' → to ≡ to' → Running part text ns₀ last at op ns l m to → Running part text ns₀ last at op ns l m' to'
+moved e f r = rw (← e, ← f) r
+
 module _ (part text : Text) (ns₀ : List ℕ) (last at : ℕ) where
   module _ (op : ℕ) {most : ℕ} (now : Now ns₀ last op most) where
     w : width_of op ≡ 4
@@ -155,7 +168,7 @@ module _ (part text : Text) (ns₀ : List ℕ) (last at : ℕ) where
     told : (f : ℕ → Bool) → T (every (λ i x. not (eqb x 4) || f i) 0 widths) → f op ≡ true
     told f t = by_width 4 f t op small w
 
-    pub run_none : length ns₀ ≡ 39 → at ≤ length part → (k : ℕ) → k ≡ op → Running part text ns₀ last at op ns₀ last (get_or ns₀ k 0) at
+    run_none : length ns₀ ≡ 39 → at ≤ length part → (k : ℕ) → k ≡ op → Running part text ns₀ last at op ns₀ last (get_or ns₀ k 0) at
     run_none l h k q =
         record {
           passed = still;
@@ -225,8 +238,36 @@ module _ (part text : Text) (ns₀ : List ℕ) (last at : ℕ) where
                 place = omega (arith, long);
               }
 
-          pub run_more : (k : ℕ) → k ≡ op → Running part text ns₀ last at op (set ns k (m + 1)) op (m + 1) (to + 5)
+          run_more : (k : ℕ) → k ≡ op → Running part text ns₀ last at op (set ns k (m + 1)) op (m + 1) (to + 5)
           run_more k q = rw q run_here
+
+    -- a run of n commands that fit, one behind the other
+
+    counts_after : ℕ → List ℕ
+    counts_after zero = ns₀
+    counts_after (suc n) = set (counts_after n) op (has ns₀ op + n + 1)
+
+    last_after : ℕ → ℕ
+    last_after zero = last
+    last_after (suc n) = op
+
+    counts_are : (n : ℕ) → counts_after (suc n) ≡ set ns₀ op (has ns₀ op + n + 1)
+    unfolding counts_after
+    counts_are zero = refl
+    counts_are (suc n) = ap (λ (l : List ℕ). set l op (has ns₀ op + suc n + 1)) (counts_are n) ∙ set-set ns₀ op (has ns₀ op + n + 1) (has ns₀ op + suc n + 1)
+
+    module _ (l : length ns₀ ≡ 39) (h : at ≤ length part) where
+      running : (n : ℕ) → has ns₀ op + n ≤ most → ((i : ℕ) → i < n → fitting part (at + 5 * i) text op ≡ true) → Running part text ns₀ last at op (counts_after n) (last_after n) (has ns₀ op + n) (at + 5 * n)
+      unfolding counts_after last_after
+      running zero b f = moved (omega arith) (omega arith) (run_none l h op refl)
+      running (suc n) b f =
+          moved (omega arith) (omega arith)
+          (run_more (running n (omega (arith, b)) (λ i s. f i (omega (arith, s)))) (fitting part (at + 5 * n) text op) refl (f n (omega arith)) (omega (arith, b)) op refl)
+
+      pub run_taken : (n : ℕ) → (n ≡ 0 → ⊥) → has ns₀ op + n ≤ most → ((i : ℕ) → i < n → fitting part (at + 5 * i) text op ≡ true) → Passed part text ns₀ last at (set ns₀ op (has ns₀ op + n)) op (at + 5 * n)
+      unfolding last_after
+      run_taken zero z b f = absurd (z refl)
+      run_taken (suc n) z b f = recast part text ns₀ last at (counts_are n ∙ ap (set ns₀ op) (omega arith)) refl refl (running (suc n) b f).passed
 
   -- a command that comes once, by its slot
   module _ (k : ℕ) (b : Bool) (bv : b ≡ once ns₀ k)

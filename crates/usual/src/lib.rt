@@ -2,7 +2,7 @@
 // one with a string and those of its kind behind it. All else the record checker looks at: BEGIN, END, text options, and what is wrong.
 #![tactic(auto)]
 
-ghost use Rattle.std.specs.Prelude.{◌≡◌, List, true, not, cond, ℕ, ◌+◌, ◌≤◌, ◌<◌, length, get_or, set, eqb};
+ghost use Rattle.std.specs.Prelude.{◌≡◌, List, true, not, cond, ℕ, ◌+◌, ◌*◌, ◌≤◌, ◌<◌, length, get_or, set, eqb};
 ghost use Rattle.strings.specs.Scan.{tame_text};
 ghost use Rattle.book.specs.Command.{key, flag};
 ghost use Rattle.book.specs.State.{has, AllSeen};
@@ -35,7 +35,24 @@ fn fits(text: &[u8], part: &[u8], at: usize, op: u8) -> bool
         bytes: text,
         tame: true,
     };
-    text.is_good(read_span(from(part, at)))
+    text.is_good(read_span(&part[at..]))
+}
+
+// How many commands with the byte op stand one behind the other from the offset on, each of which fits; at most so many are looked at.
+fn run_length(text: &[u8], part: &[u8], at: usize, op: u8, most: u8) -> u8
+    requires { (at ≤ length part.now) × (tame_text text.now ≡ true) }
+    ensures bound { result ≤ most }
+    ensures fit { (i : ℕ) → i < result → fitting part.now (at + 5 * i) text.now op ≡ true }
+{
+    // The place goes on by a command at a time, since each is looked at before it is taken.
+    let mut to = at;
+    for n in 0..most {
+        if !fits(text, part, to, op) {
+            return n;
+        }
+        to += STRIDE;
+    }
+    most
 }
 
 // How many of a command there may be, given that of one before it; none where that is missing.
@@ -78,17 +95,14 @@ fn pass_run(text: &[u8], part: &[u8], at: usize, tally: &mut Tally, op: u8) -> u
         return at;
     }
     let k = usize::from(op);
-    // The place goes on by a command at a time, since each is looked at before it is taken.
-    let mut to = at;
-    for m in tally.counts[k]..most {
-        if !fits(text, part, to, op) {
-            return to;
-        }
-        tally.counts[k] = m + 1;
-        tally.last = op;
-        to += STRIDE;
+    let m = tally.counts[k];
+    let n = run_length(text, part, at, op, most.saturating_sub(m));
+    if n == 0 {
+        return at;
     }
-    to
+    tally.counts[k] = m + n;
+    tally.last = op;
+    at + STRIDE * usize::from(n)
 }
 
 // Counts a command that comes once, by its slot, where it comes for the first time in a record that has begun.

@@ -1,3 +1,7 @@
+use native.Mathlib.Omega.{arith}
+use lib.ListN.{length, drop, length-drop}
+use lib.Seq.{take_all}
+use Prim.Native.Nat.{◌-◌}
 use mathlib.Core.Path.{ap, ◌∙◌}
 use Rattle.book.specs.Command.{operands}
 use Rattle.usual.proofs.Passing.{fit_short, fit_other, fit_on}
@@ -12,4 +16,4 @@ returns-then-part-at-lt-STRIDE c =
     ]
 
 pub returns : goal.returns
-returns c = fit_on _ _ _ _ c.if-part-at-lt-STRIDE.false c.if-part-at.false _ (c.read_span.ensures ∙ ap (operands 4) c.from.ensures) _ c.is_good.ensures
+returns c = fit_on _ _ _ _ c.if-part-at-lt-STRIDE.false c.if-part-at.false _ (c.read_span.ensures ∙ ap (operands 4) (take_all (length c.args.part.now - c.args.at) (drop c.args.at c.args.part.now) (omega (arith, length-drop c.args.at c.args.part.now)))) _ c.is_good.ensures
