@@ -12,7 +12,7 @@ const TAB: u8 = 0x09;
 // What an output is filled with.
 const PATTERN: u8 = 0xA5;
 
-// What a line asks.
+// What a line asks: the kind alone, which is told before the fields are looked for.
 #[derive(Clone, Copy, PartialEq, Eq)]
 pub enum Kind {
     Build,

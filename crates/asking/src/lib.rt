@@ -161,7 +161,7 @@ fn answer_input(
     Some(answer_lines(rt, book, lines, out))
 }
 
-// Reads what comes next of standard input to the place `at`. Gives how many bytes came: none at its end.
+// Reads what comes next of standard input to the place `at`. Gives how many bytes came: none at its end, and none where it fails, since both end the run.
 fn read_more(rt: &impl Eprint, input: &mut impl Read, buffer: &mut [u8], at: usize) -> usize
     requires { at ≤ length buffer.old }
     ensures { at + result ≤ length buffer.old }
@@ -174,6 +174,8 @@ fn read_more(rt: &impl Eprint, input: &mut impl Read, buffer: &mut [u8], at: usi
         }
     }
 }
+
+// The standard streams, the book and the room for an answer are handed on one by one: a struct of the three would borrow each for as long as it lives.
 
 // Answers the lines that have their end in the first `end` bytes of the buffer, and keeps what follows at its start: how many bytes, none where
 // their line is passed over. A line that fills the buffer is too long, and is passed over.

@@ -84,7 +84,8 @@ pub const LAST_FLAG: u8 = 10;
 
 pub const LAST_TEXT: u8 = 6;
 
-// A command: its byte, the id and value of a flag, the id of a text option, and start and length of its string. What it has not is 0.
+// A command: its byte, the id and value of a flag, the id of a text option, and start and length of its string. What it has not is 0:
+// an enum of operands would be taken apart wherever a string's start and length are asked.
 #[derive(Clone, Copy)]
 pub struct Cmd {
     pub op: u8,
@@ -94,7 +95,7 @@ pub struct Cmd {
     pub len: usize,
 }
 
-// Why no command is read.
+// Why no command is read. Two cases and no Option: the definitions tell them apart.
 #[derive(Clone, Copy, PartialEq, Eq)]
 pub enum Stop {
     // An unknown byte, or operands cut short.
@@ -256,6 +257,7 @@ pub enum Fault {
 }
 
 impl Fault {
+    // Its number in the table of document 01.
     pub fn number(self) -> u32
         ensures { result ≡ number_of self }
     {
@@ -270,7 +272,8 @@ pub struct Refusal {
     pub place: usize,
 }
 
-// A record that was read to its END: where its commands end, and its path's start and length.
+// A record that was read to its END: where its commands end, and its path's start and length. A start and a length stand so in a command too, and in the two rows
+// below: a type for the two would be opened wherever one of them is asked.
 #[derive(Clone, Copy)]
 pub struct Closed {
     pub end: usize,
@@ -287,7 +290,7 @@ pub struct Seen {
 }
 
 impl Seen {
-    // A row that says nothing yet.
+    // A row that says nothing yet: a constant, so that an array is made of it.
     pub const NONE: Seen = Seen {
         start: 0,
         len: 0,
@@ -304,7 +307,7 @@ pub struct IndexRow {
 }
 
 impl IndexRow {
-    // A row that says nothing yet.
+    // A row that says nothing yet: a constant, so that an array is made of it.
     pub const NONE: IndexRow = IndexRow {
         begin: 0,
         start: 0,

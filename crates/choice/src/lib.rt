@@ -36,6 +36,7 @@ pub fn best_key<'a, const MOST: usize>(
     ensures value { option_map key_of result ≡ best_key spec.now None (keys_of place.now.text.now (read place.now.commands.now place.now.at)) }
     ensures short { IfSome result (λ k. length k.name.now ≤ MOST) }
 {
+    // What the next must reach is kept beside the best: out of the key it would be looked for again each time.
     let mut best = None;
     let mut least = 0;
     for key in place.keys() {

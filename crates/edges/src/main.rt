@@ -55,7 +55,8 @@ fn fold(sum: usize, x: usize) -> usize {
     ((sum % PRIME) * 131 + x % PRIME) % PRIME
 }
 
-// What the check says of a book: the refusal's number and place; where it is accepted 0, 0, its records and the sum of their index.
+// What the check says of a book: the refusal's number and place; where it is accepted 0, 0, its records and the sum of their index. Four numbers and no Result: so the
+// list has them, and so they are summed.
 #[derive(Clone, Copy, PartialEq, Eq)]
 struct Verdict {
     number: usize,

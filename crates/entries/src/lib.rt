@@ -28,7 +28,8 @@ const SHORT: usize = 128;
 
 const LONG: usize = 1100;
 
-// Whether s is `./` and one name that does not begin with a dot.
+// Whether s is `./` and one name that does not begin with a dot. That it is, and the name, are two steps: an Option of the name would be taken apart by a
+// third.
 #[tactic(auto, using(crate::proofs::Beside::besides))]
 fn is_beside(s: &[u8]) -> bool
     ensures { result ≡ is_beside s.now }
@@ -89,6 +90,7 @@ fn read_entry(checked: &CheckedBook<'_>, dir: &[u8], s: &[u8]) -> Entry
 {
     match s {
         [] => Entry::Empty,
+        // A `match` and no method of Option, as below: the number is a record's, which is told of what is found.
         [SLASH | DOT, ..] => match find_meant(&checked.book.paths, dir, s) {
             Some(i) => Entry::Leads(i as u8),
             None => Entry::Missing,
@@ -118,6 +120,7 @@ fn read_entries(checked: &CheckedBook<'_>, c: usize) -> Entries
 fn unread(entries: &[Entry]) -> Option<Fault>
     ensures { option_map number_of result ≡ unread_of (entries_of entries.now) }
 {
+    // A loop and no `find_map`: the two that are refused and the two that are not stand side by side.
     for entry in entries {
         match entry {
             Entry::Empty => return Some(Fault::EmptyEntry),

@@ -11,7 +11,7 @@ use emit::Output;
 use lines::{put_built, put_keys, put_line, put_placed, put_root_rows, put_strings};
 use record::Record;
 
-// The five differ in what writes their lines, and each of these takes other things: handed on as a closure its promise stands in the clauses of the
+// The five, and the `match` of each, differ in what writes their lines, and each of these takes other things: handed on as a closure its promise stands in the clauses of the
 // one function and again at each call, which is no plainer.
 
 // Writes files, include or exclude, if it has a supplier: its items, or its name alone where there are none.

@@ -39,6 +39,8 @@ impl Verdict {
         matches!(self, Verdict::Yes)
     }
 
+    // Of these tables of five rows some are alike but for a row or two: each is a line of the definition.
+
     // Whether a verdict after a star leaves nothing to try.
     pub fn is_settled(self) -> bool
         ensures { result ≡ is_settled self }

@@ -12,7 +12,8 @@ ghost use Rattle.items.specs.Runs.{commands_left, NextTarget};
 
 use book::{Cmd, END, TARGET, command_at};
 
-// The commands from an offset on and before the record's END, each with the offset after it.
+// The commands from an offset on and before the record's END, each with the offset after it. All commands and the offset, here and in `record`, and not the rest
+// of them: offsets are what an index and a refusal tell.
 #[derive(Clone, Copy)]
 pub struct Commands<'a> {
     pub commands: &'a [u8],

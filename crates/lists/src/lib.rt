@@ -15,7 +15,7 @@ pub fn byte_at(s: &[u8], at: usize) -> usize
 }
 
 // The numbers of two, three and four bytes, each by the narrower ones: one function over their count is a loop with a bound, and no plainer. A byte that
-// is not there is 0, where `word_at` of `book`, over which these programs do not stand, asks that it is there.
+// is not there is 0, where `word_at` of `book`, over which this crate does not stand, asks that it is there.
 
 // The two bytes at `at`, low first.
 pub fn word_at(s: &[u8], at: usize) -> usize
@@ -44,7 +44,7 @@ pub fn long_at(s: &[u8], at: usize) -> usize
     word_at(part, 0) + word_at(part, 2) * 65536
 }
 
-// Entries, those that disagree with what is listed, and the number of the first of these, 0 where there is none.
+// Entries, those that disagree with what is listed, and the number of the first of these, 0 where there is none: so it is written.
 #[derive(Clone, Copy, PartialEq, Eq, Default)]
 pub struct Tally {
     pub entries: u64,

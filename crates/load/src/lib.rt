@@ -12,7 +12,7 @@ use entries::{Entry, Opened, open_record};
 use merge::merge_row;
 use rows::{CheckedBook, ROW};
 
-// The rows of the records that are loaded.
+// The rows of the records that are loaded: of fixed length, since nothing takes memory from a heap.
 pub type Table = [Option<[u8; ROW]>; MOST_RECORDS];
 
 // What is loaded of a book so far: the rows of its records, and how many merges are made.
@@ -23,7 +23,7 @@ pub struct Loads<'a> {
     pub merges: usize,
 }
 
-// The record that an extends entry of the record c leads to.
+// The record that an extends entry of the record c leads to. `unread` of `entries` has two of the faults too, for of those it knows it is asked before.
 fn parent_of(entry: Entry, c: usize) -> Result<usize, Refusal>
     ensures { ParentAs c entry result }
 {

@@ -22,6 +22,8 @@ use sites::Built;
 use targets::{put_read, put_targets};
 use text::DOT;
 
+// What is asked of the specifier and the place (`Asks`) is asked once more by what calls: a type for the two would be opened at each write.
+
 // Writes what the `paths` of the record give for the specifier, and gives how many they are: the targets of an equal key as they are built, else
 // those of the best wildcard, filled.
 fn put_mapped(out: &mut Output, built: &Built, record: &Record, spec: &[u8]) -> usize

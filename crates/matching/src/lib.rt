@@ -96,6 +96,9 @@ fn is_matched<const N: usize>(js: bool, path: &[u8], p: &[u8]) -> bool
     is_matched_by(js, path, imply(p, &mut buffer))
 }
 
+// Two and two of the four that follow differ in the one function that they call. It takes other things: handed on as a closure its promise would stand in
+// the clauses and at each call. Whether JavaScript is taken in is a datum here and above: an option of the config.
+
 // Whether an item of include or exclude, built in the directory, matches the path, where the built item is within N bytes.
 fn is_item_matched_within<const N: usize>(js: bool, path: &[u8], dir: &[u8], s: &[u8]) -> bool
     requires room { length dir.now + length s.now + 6 ≤ N }

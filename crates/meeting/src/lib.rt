@@ -25,6 +25,8 @@ fn do_meet(a: &[u8], b: &[u8]) -> bool
     }
 }
 
+// A string and its digest are handed on apart: the digest is computed where the string is at hand, and kept without it.
+
 // Whether two paths may meet, by their lengths and digests: of two of one length, only where the digests are the same.
 fn may_meet(size: usize, len: usize, mark: u8, other: u8) -> bool
     ensures { result ≡ cond (eqb size len) (eqb mark other) true }

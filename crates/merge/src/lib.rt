@@ -42,6 +42,7 @@ pub fn merge_row(row: &mut [u8; ROW], far: &[u8; ROW])
         row[places::BASE],
         far[places::BASE],
     );
+    // By the place: the first 26 of a row's 28 places are fields.
     for i in 0..FIELDS {
         row[i] = pick(row[i], far[i]);
     }

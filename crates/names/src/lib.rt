@@ -21,6 +21,7 @@ pub fn strip_config_dir(s: &[u8]) -> Option<&[u8]>
     s.strip_prefix(b"${configDir}")
 }
 
+// This and those that follow are alike but for their names, which are what each is about.
 pub fn is_node_modules(s: &[u8]) -> bool
     ensures { result ≡ same_text s.now node_modules }
 {

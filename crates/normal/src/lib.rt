@@ -34,6 +34,7 @@ fn is_nameless(s: &[u8]) -> bool
 fn ends_in_names(s: &[u8]) -> bool
     ensures { result ≡ names_behind s.now }
 {
+    // By its place: what stands behind a slash is the rest from there on.
     for i in 0..s.len() {
         if s[i] == SLASH && is_nameless(&s[i + 1..]) {
             return false;

@@ -57,7 +57,7 @@ fn text_value<'a>(commands: &'a [u8], text: &'a [u8], at: Option<usize>, id: u8)
     Place::new(commands, text, at?).text_option(id)
 }
 
-// Writes the flags and the text options of a row of suppliers.
+// Writes the flags and the text options of a row of suppliers. Commands, index and row are lent apart: of the records nothing is asked, and a book says more.
 pub fn put_options(out: &mut Output, commands: &[u8], paths: &PathTable, row: &[u8])
     requires reaches { Reaches paths.now.rows.now row.now }
     requires room { Room out.old.at (options_from commands.now paths.now.rows.now row.now paths.now.text.now) }

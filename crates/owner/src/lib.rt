@@ -35,6 +35,7 @@ fn first_claimer<'a>(book: &'a Book<'a>, refs: &'a [[u8; ROW]], path: &[u8]) -> 
     requires { All (Row (records_in book.now)) refs.now }
     ensures { result ≡ claimer path.now (sites_of (records_in book.now) refs.now) }
 {
+    // A loop and not `find`: that each row is one of a record would stand in a closure's clause.
     for row in refs {
         if is_claimed(&Config::new(book, row), path) {
             return Some(site_number(row));

@@ -21,6 +21,7 @@ fn put_paths(out: &mut Output, directory: Option<&[u8]>, built: &Built, specifie
     requires directory { IfSome directory (λ d. length d.now ≤ 512) }
     ensures { Lists (paths_by (option_copied directory.entry) specifier.now (settings_in built.now.config)) out.old out.new result }
 {
+    // A `match`, and no method of Option: the arms write to the output.
     match directory {
         Some(directory) => put_tries(out, built, directory, specifier),
         None => put_candidates(out, built, specifier),

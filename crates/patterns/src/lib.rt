@@ -29,6 +29,7 @@ fn is_crowded(x: u8, z: u8) -> bool
 fn has_few_apart(s: &[u8]) -> bool
     ensures { result ≡ stars_apart s.now }
 {
+    // By the place: the middle byte of three is looked at first, and mostly alone.
     for i in 2..s.len() {
         if s[i - 1] == STAR && is_crowded(s[i - 2], s[i]) {
             return false;

@@ -20,7 +20,7 @@ use rows::{Book, CheckedBook};
 use sites::{Built, Config};
 use strings::is_string;
 
-// What stands for no record.
+// What stands for no record: the number that document 01 has for it, since an owner is told by two numbers.
 pub const NOBODY: usize = 65535;
 
 // The book, which is checked first: the check fills the index.
@@ -81,7 +81,8 @@ pub fn build(commands: &[u8], text: &[u8], path: &[u8], out: &mut [u8]) -> Resul
     write_listing(&built, merges, &mut scratch, out)
 }
 
-// The answer to C, or to T where a directory is given.
+// The answer to C, or to T where a directory is given. It has the steps of `build`, with other scratch and another writer: handed on, the writer's promise
+// would stand here once more.
 fn paths(
     commands: &[u8],
     text: &[u8],
@@ -140,6 +141,7 @@ pub fn owner(commands: &[u8], text: &[u8], path: &[u8]) -> Result<Given, Refusal
             place: 0,
         });
     }
+    // A `match`, and no method of Option: the two answers stand side by side.
     match find_owner(&checked, path)? {
         Some(owner) => Ok(give(owner.found, owner.solution)),
         None => Ok(give(NOBODY, NOBODY)),

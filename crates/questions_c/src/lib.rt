@@ -1,4 +1,5 @@
-// The questions, as C functions: C lends bytes with their length, and takes a struct of numbers. Each gives the numbers of what `questions` answers.
+// The questions, as C functions: C lends bytes with their length, and takes a struct of numbers. Each gives the numbers of what `questions` answers: they
+// stand here once more, since no crate can stand over a static library, and the programs stand over `questions`.
 #![tactic(auto)]
 
 ghost use Rattle.std.specs.Prelude.{◌≡◌, length};

@@ -54,7 +54,7 @@ impl Joined<'_> {
         starts_with(from(q, k), self.tail) && self.leads(q)
     }
 
-    // Where q, which is another path, is best told from this one: where it differs, or at k where it ends before.
+    // Where q, which is another path, is best told from this one: where it differs, or at k where it ends before, so that there is always a place to look.
     fn difference(&self, q: &[u8], k: usize) -> usize {
         let at = self.tail_start();
         if q.len() < at + self.tail.len() {
@@ -101,7 +101,8 @@ impl<'a> PathTable<'a> {
         piece(self.text, self.rows[i].start, self.rows[i].len)
     }
 
-    // The first row from i on whose byte k may be x and whose byte m may be y.
+    // The first row from i on whose byte k may be x and whose byte m may be y; the number of rows where none is left, and no Option: the walks below go on
+    // from it and end there. A loop over numbers, for the answer is one.
     fn next_like(&self, i: usize, x: u8, k: usize, y: u8, m: usize) -> usize
         requires { (i ≤ length self.now.rows.now) × (m ≤ k) }
         ensures { Unlike self.now.text.now self.now.rows.now x k y m i result }

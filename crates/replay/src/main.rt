@@ -122,7 +122,7 @@ fn replay<F: Fn(&[u8]) -> bool>(list: &[u8], line_agrees: F) -> Tally
     tally
 }
 
-// Writes how a list fared, of so many bytes.
+// Writes how a list fared, of so many bytes. Each program writes a tally with other words between.
 fn say_tally(rt: &(impl Print + Eprint), name: &str, bytes: usize, tally: &Tally) {
     say(rt, name.as_bytes());
     for number in [bytes as u64, tally.entries, tally.wrong, tally.first] {

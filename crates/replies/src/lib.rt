@@ -39,7 +39,7 @@ pub struct Numbers {
     pub bytes: u64,
 }
 
-// A refusal by its number, and its place.
+// A refusal by its number, which may be any, and its place: what is refused by a `Fault` is made of it below.
 #[tactic(auto, unfolding(crate::specs::Replies::returned))]
 pub fn refuse(number: u32, place: usize) -> Numbers
     ensures { numbers_of result ≡ returned (refused number place) }

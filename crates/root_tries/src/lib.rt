@@ -61,6 +61,7 @@ pub fn put_root_tries(out: &mut Output, record: &Record, dir: &[u8], p: &[u8]) -
     let mut buffer = [0u8; 1600];
     let root = build_place(dir, own, s, &mut buffer);
     put_path(out, p);
+    // A `match`, and no method of Option: an arm writes to the output.
     match strip_prefix(p, root) {
         Some(rest) => 1 + put_in_roots(out, record, dir, own, root, rest),
         None => 1,

@@ -18,6 +18,7 @@ pub fn best_root<'a>(record: &Record<'a>, dir: &[u8], own: &[u8], p: &[u8]) -> O
     ensures value { option_map (built_place dir.now own.now) (option_copied result) ≡ root_above p.now None (roots_of record.now.commands.now record.now.text.now dir.now own.now record.now.at) }
     ensures short { IfSome result (λ s. length s.now ≤ 512) }
 {
+    // What the next must reach is kept beside the best: the best would have to be built again each time.
     let mut best = None;
     let mut least = 0;
     for s in record.strings(ROOT_DIR) {

@@ -82,7 +82,8 @@ pub fn own_row(commands: &[u8], rec: usize, c: u8) -> [u8; ROW]
     row
 }
 
-// Where the record that stands at a place of the row begins in the commands.
+// Where the record that stands at a place of the row begins in the commands. A row is lent as any bytes here and in `sites`, with its length where that is needed:
+// `load` and `merge` have it as an array.
 pub fn begin_at(rows: &[IndexRow], row: &[u8], k: usize) -> Option<usize>
     requires { (k < length row.now) × ((get_or row.now k 255 ≡ 255 → ⊥) → get_or row.now k 255 < length rows.now) }
     ensures { result ≡ begin_at rows.now row.now k }

@@ -74,6 +74,7 @@ fn put_target_within<const N: usize>(
 {
     let mut buffer = [0u8; N];
     let path = adjust(dir, base, t, &mut buffer);
+    // A `match`, and no method of Option: the arms write to the output.
     match part {
         Some(part) => put_filled(out, path, part),
         None => put_path(out, path),

@@ -41,7 +41,8 @@ fn put_in_config_dir(path: &mut Output, dir: &[u8], s: &[u8])
     join(path, dir, without_slashes(from(s, CONFIG_DIR_LEN)));
 }
 
-// The same, in a buffer.
+// The same, in a buffer. Buffers are of fixed length, here and above: nothing takes memory from a heap. What fills them and gives what it holds is three lines in
+// each, and what is between them differs.
 fn in_config_dir<'a>(dir: &[u8], s: &[u8], buffer: &'a mut [u8]) -> &'a [u8]
     requires { length dir.now + 1 + length s.now ≤ length buffer.old }
     ensures { result.now ≡ in_config_dir dir.now s.now }
