@@ -36,6 +36,7 @@ fn put_in_roots(
     // Counted as they are written: some root dirs are passed over.
     let mut count = 0;
     for s in record.strings(ROOT_DIR) {
+        // Of fixed length, here and below: nothing takes memory from a heap.
         let mut buffer = [0u8; 1600];
         let other = build_place(dir, own, s, &mut buffer);
         if !same_path(other, root) {

@@ -22,6 +22,7 @@ pub fn best_root<'a>(record: &Record<'a>, dir: &[u8], own: &[u8], p: &[u8]) -> O
     let mut best = None;
     let mut least = 0;
     for s in record.strings(ROOT_DIR) {
+        // Of fixed length: nothing takes memory from a heap.
         let mut buffer = [0u8; 1600];
         let root = build_place(dir, own, s, &mut buffer);
         if least <= root.len() && lies_under(p, root) {

@@ -27,6 +27,7 @@ fn put_from_roots(out: &mut Output, config: &Config, directory: &[u8], spec: &[u
     let Some(record) = config.supplier(places::ROOT_DIRS) else {
         return 0;
     };
+    // Of fixed length: nothing takes memory from a heap.
     let mut buffer = [0u8; 1100];
     let p = normalize_with(directory, spec, &mut buffer);
     put_root_tries(out, &record, config.dir, p)
