@@ -7,8 +7,8 @@ ghost use Rattle.text.specs.Text.{some_of, each_of};
 ghost use Rattle.strings.specs.Strings.{none_of, plain_byte, string_rule};
 ghost use Rattle.strings.specs.Scan.{flag, tame_byte, tame_text};
 
-// The most bytes that a string has. That a string or a directory is no longer is asked in clauses: a type for it would be wrapped at each call and
-// unwrapped at each use. What a config, a record or a row has brings its bound with it.
+// The most bytes that a string has. That a string or a directory is no longer, and a base, a buffer or a book as long as it may be, is asked in clauses: a type
+// for each would be wrapped at each call and unwrapped at each use. What a config or a record has brings its bound with it.
 pub const LONGEST: usize = 512;
 
 const LOWEST: u8 = 0x20;
