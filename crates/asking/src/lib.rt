@@ -16,6 +16,7 @@ use streams::{fail, read_file};
 pub use streams::{say, say_number};
 use text::{find_byte, from, upto};
 
+// `replay` and `rooms` have it too: each names the bytes that it reads by, and stands alone.
 const LINE_END: u8 = b'\n';
 
 // A question, with what it asks about.

@@ -53,7 +53,7 @@ pub fn is_name(p: &[u8]) -> bool
     piece_kind(p) == Piece::Name
 }
 
-// Whether s is a path from the root.
+// Whether s is a path from the root. `mapping` looks for a dot so: each is a test of one byte, by its name.
 #[tactic(auto, using(crate::proofs::Components::firsts))]
 pub fn is_absolute(s: &[u8]) -> bool
     ensures { result ≡ starts slash s.now }

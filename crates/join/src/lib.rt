@@ -116,7 +116,7 @@ pub fn normalize(path: &mut Output, base: &[u8], sub: &[u8])
     push_pieces(path, sub);
 }
 
-// The same, in a buffer.
+// The same, in a buffer. `values` and `matching` have three such lines too: what is between differs.
 pub fn normalize_with<'a>(base: &[u8], sub: &[u8], buffer: &'a mut [u8]) -> &'a [u8]
     requires { length base.now + 1 + length sub.now ≤ length buffer.old }
     ensures { result.now ≡ normalize_with base.now sub.now }

@@ -54,7 +54,7 @@ pub fn put_row(out: &mut Output, name: &[u8], v: &[u8])
     put_value(out, v);
 }
 
-// Three pairs of the functions that follow differ in the one function that they call. It takes other things: handed on as a closure its promise would stand in the
+// Directory and base are handed on apart, here and above: what is read from the directory alone has no base. Three pairs of the functions that follow differ in the one function that they call. It takes other things: handed on as a closure its promise would stand in the
 // clauses and at each call.
 
 // Writes a string, as built in N bytes from the directory or from the base, as a line with the name.

@@ -21,6 +21,7 @@ use text::from;
 // The bytes of a flag.
 const FLAG_STRIDE: usize = 3;
 
+// As many as `Keys` has room for.
 const MOST_KEYS: u8 = 32;
 
 // Whether a command with the byte op stands at the offset, with a string that keeps its rules.
