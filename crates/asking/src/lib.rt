@@ -220,7 +220,7 @@ fn answer_all(rt: &(impl Input + Print + Eprint), book: &Book, buffer: &mut [u8]
     }
 }
 
-// Reads a file whole, as far as there is room. Says what is wrong where it cannot be read, or where its name is no text.
+// Reads a file whole, as far as there is room. How many bytes, and no slice: the room stays the caller's. Says what is wrong where it cannot be read, or where its name is no text.
 pub fn load(rt: &(impl Files + Eprint), name: &[u8], room: &mut [u8]) -> Option<usize>
     ensures { IfSome result (λ n. n ≤ length room.old) }
 {

@@ -58,7 +58,7 @@ impl Claimant<'_> {
         }
     }
 
-    // Whether the config's include takes the path in.
+    // Whether the config's include takes the path in. `is_excluded` differs in a constant and in what stands for none: each is one of the definition's tests.
     fn is_included(&self, path: &[u8]) -> bool
         ensures { result ≡ included (site_in self.now.config.now) path.now ((site_in self.now.config.now).config.named include) }
     {

@@ -135,6 +135,7 @@ pub fn owner(commands: &[u8], text: &[u8], path: &[u8]) -> Result<Given, Refusal
 {
     let mut index = [IndexRow::NONE; MOST_RECORDS];
     let checked = open_book(commands, text, &mut index)?;
+    // Refused as in `load_asked`, which loads a record besides.
     if !is_asked_path(path) {
         return Err(Refusal {
             fault: Fault::BadQuestion,

@@ -17,7 +17,7 @@ pub struct Given {
     pub bytes: usize,
 }
 
-// An answer without output.
+// An answer without output. A function and no `From`: of two numbers a pair would not say which is which.
 pub fn give(first: usize, second: usize) -> Given
     ensures { numbers_given result ≡ 0 ∷ 0 ∷ first ∷ second ∷ 0 ∷ [] }
 {
@@ -68,7 +68,8 @@ impl From<Result<Given, Refusal>> for Numbers {
     }
 }
 
-// Copies the text to the start of the output, as far as that reaches; how many bytes it has.
+// Copies the text to the start of the output, as far as that reaches; how many bytes it has, which
+// may be more than the output has: so no slice is handed back.
 pub fn copy_out(text: &[u8], out: &mut [u8]) -> usize
     ensures { Emits text.now out.old 0 out.new result }
 {

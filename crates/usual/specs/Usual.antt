@@ -54,7 +54,8 @@ pub data Passed (part text : Text) (counts : List ℕ) (last at : ℕ) : List �
       {counts' : List ℕ} {last' at' k : ℕ} {c : Cmd} {nx : ℕ} → Passed part text counts last at counts' last' at' → step_at part at' ≡ Ok (c, nx) → Usual text counts' last' k c →
       Passed part text counts last at (pushed counts' c k) c.op nx
 
--- What was taken from the offset on: usual commands of one byte, or a key, whose row comes behind the others; or nothing, where a key is not fine or none stands there.
+-- What was taken from the offset on: usual commands, the last of which has the byte that stands at the offset, or a key, whose row comes behind the others; or nothing, where a key
+-- is not fine or none stands there.
 pub data Taken (part text : Text) (counts : List ℕ) (last at : ℕ) (keys : List Seen) : List ℕ → ℕ → ℕ → List Seen → Type 0 where
   passed :
       {counts' : List ℕ} {last' to : ℕ} → (get_or part at 0 ≡ key → ⊥) → Passed part text counts last at counts' last' to → last' ≡ cond (eqb to at) last (get_or part at 0) →

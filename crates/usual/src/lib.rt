@@ -84,9 +84,9 @@ fn most_now(tally: &Tally, op: u8) -> u8
     }
 }
 
-// Takes the commands with the byte op from the offset on, as many as fit. The offset after them, which is the same where none does, here and below: what goes on
-// goes on from it in either case. Commands, offset and tally are handed on by
-// themselves, here and below: the tally alone is changed, and the record checker goes on with each of the three.
+// Takes the commands with the byte op from the offset on, as many as fit. The offset after them; where none fits it is the same, and no Option, here and below:
+// the next command is looked at from it in either case. Commands, offset and tally are handed on by themselves, here and below: the tally alone is changed, and
+// the record checker goes on with each of the three.
 fn pass_run(text: &[u8], part: &[u8], at: usize, tally: &mut Tally, op: u8) -> usize
     requires { (at ≤ length part.now) × (tame_text text.now ≡ true) }
     ensures passed { Passed part.now text.now tally.old.counts tally.old.last at tally.new.counts tally.new.last result }
