@@ -13,6 +13,11 @@ use Rattle.book.specs.Record.{record_path_of}
 use Rattle.book.specs.Book.{judge}
 use Rattle.book.specs.Index.{up_to_end, begins_of}
 use Rattle.book.specs.State.{texts}
+use Rattle.compare.specs.Compare.{digest_of}
+
+-- the row of a closed record's path
+abbrev pub closed_row : Text → Closed → Seen
+closed_row text c = record { start = c.start; len = c.len; mark = digest_of (take c.len (drop c.start text)) }
 
 -- the rows have the paths of the records before
 pub record Held (text : Text) (rows : List Seen) (records : List (List Cmd)) : Type 0 where

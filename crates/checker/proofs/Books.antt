@@ -21,12 +21,9 @@ use Rattle.book.specs.Book.{judge, finish, verdict}
 use Rattle.book.specs.Index.{up_to_end, record_at, begins_of, no_row, index_at, Row, AcceptedAs}
 use Rattle.book.specs.declared.IndexRow.{IndexRow}
 use Rattle.book.specs.declared.Seen.{Seen}
-use Rattle.book.specs.State.{texts, IsSeen, AllSeen}
+use Rattle.book.specs.State.{texts}
 use Rattle.std.proofs.lemmas.List.{take_more_set, length-append}
-use Rattle.std.proofs.lemmas.List.Elements.{All-nil, All-push}
-use lib.Seq.{length-take-le}
-use Rattle.compare.specs.Compare.{digest_of}
-use Rattle.book.specs.Checks.{Held, ClosedAs, CheckedAs}
+use Rattle.book.specs.Checks.{Held, ClosedAs, CheckedAs, closed_row}
 use Rattle.verdicts.proofs.Turns.{texts_more}
 
 module _ (commands text : Text) where
@@ -42,52 +39,48 @@ module _ (commands text : Text) where
   abbrev pub begins : ℕ → List IndexRow → List ℕ
   begins n index = map (λ (row : IndexRow). row.begin) (take n index)
 
-  pub record Booked (index : List IndexRow) (rows : List Seen) (n at : ℕ) : Type 0 where
+  pub record Booked (index : List IndexRow) (rows : List Seen) (at : ℕ) : Type 0 where
     pub records : List (List Cmd)
-    pub held : Held text (take n rows) records
-    pub seen : AllSeen text (take n rows)
-    pub few : n ≤ 64
+    pub held : Held text rows records
+    pub few : length rows ≤ 64
     pub long : length index ≡ 64
-    pub room : length rows ≡ 64
     pub place : at ≤ length commands
     pub whole : verdict commands text ≡ judge text (record { records = records; here = [] }) (decode 0 at (drop at commands))
-    pub offsets : begins_of (decode 0 0 commands) ≡ begins n index ++ begins_of (decode 0 at (drop at commands))
-    pub each : (i : ℕ) → i < n → Row commands text (index_at index i) (get_or (reverse (map reverse records)) i [])
+    pub offsets : begins_of (decode 0 0 commands) ≡ begins (length rows) index ++ begins_of (decode 0 at (drop at commands))
+    pub each : (i : ℕ) → i < length rows → Row commands text (index_at index i) (get_or (reverse (map reverse records)) i [])
 
-  pub booked_none : length commands ≤ 32768 → length text ≤ 65535 → (index : List IndexRow) (rows : List Seen) → length index ≡ 64 → length rows ≡ 64 → Booked index rows 0 0
+  pub booked_none : length commands ≤ 32768 → length text ≤ 65535 → (index : List IndexRow) → length index ≡ 64 → Booked index [] 0
   unfolding verdict texts
-  booked_none h l index rows a d =
+  booked_none h l index a =
       record {
         records = [];
         held = record { size = refl; paths = refl };
-        seen = All-nil (IsSeen text);
         few = omega arith;
         long = a;
-        room = d;
         place = omega arith;
         whole = rw (le-ltb _ _ h, le-ltb _ _ l) refl;
         offsets = refl;
         each = λ i h. absurd (omega (arith, h));
       }
 
-  module _ {index : List IndexRow} {rows : List Seen} {n at : ℕ} (s : Booked index rows n at) where
-    -- as many rows as records
-    rows_long : length (take n rows) ≡ n
-    rows_long = length-take-le n rows (omega (arith, s.few, s.room))
+  module _ {index : List IndexRow} {rows : List Seen} {at : ℕ} (s : Booked index rows at) where
+    -- as many records as rows
+    abbrev n : ℕ
+    n = length rows
 
-    pub booked_end : length commands ≤ at → AcceptedAs commands text index n
+    pub booked_end : length commands ≤ at → AcceptedAs commands text index (length rows)
     unfolding judge decode finish begins_of
     booked_end h =
         record {
           records = reverse (map reverse s.records);
           accepted = s.whole ∙ rw (drop_of_length-le commands h) refl;
-          size = length-reverse (map reverse s.records) ∙ length-map s.records reverse ∙ s.held.size ∙ rows_long;
+          size = length-reverse (map reverse s.records) ∙ length-map s.records reverse ∙ s.held.size;
           few = s.few;
           offsets = sym (s.offsets ∙ rw (drop_of_length-le commands h) (append-nil (begins n index)));
           each = s.each;
         }
 
-    module _ (part : Text) (is : part ≡ drop at commands) (r : Result Closed Refusal) (c : CheckedAs part at text (take n rows) r) where
+    module _ (part : Text) (is : part ≡ drop at commands) (r : Result Closed Refusal) (c : CheckedAs part at text rows r) where
       module _ (o : Closed) (e : r ≡ Ok o) where
         abbrev to : ℕ
         to = o.end
@@ -98,14 +91,14 @@ module _ (commands text : Text) where
         abbrev len : ℕ
         len = o.len
 
-        closed_as : ClosedAs part at text (take n rows) to start len
-        closed_as = subst (CheckedAs part at text (take n rows)) e c
+        closed_as : ClosedAs part at text rows to start len
+        closed_as = subst (CheckedAs part at text rows) e c
 
         left : length part ≡ length commands - at
         left = ap length is ∙ length-drop at commands
 
-        pub booked_few : n < 64
-        booked_few = omega (arith, closed_as.few, rows_long)
+        pub booked_few : length rows < 64
+        booked_few = closed_as.few
 
         on : drop (to - at) part ≡ drop to commands
         on =
@@ -117,7 +110,7 @@ module _ (commands text : Text) where
         listed = reverse-cons (reverse closed_as.closed) (map reverse s.records)
 
         before : length (reverse (map reverse s.records)) ≡ n
-        before = length-reverse (map reverse s.records) ∙ length-map s.records reverse ∙ s.held.size ∙ rows_long
+        before = length-reverse (map reverse s.records) ∙ length-map s.records reverse ∙ s.held.size
 
         abbrev row : IndexRow
         row = record { begin = at; start = start; len = len }
@@ -144,35 +137,17 @@ module _ (commands text : Text) where
             rw (listed, get_or-append (reverse (map reverse s.records)) (reverse closed_as.closed ∷ []) [] i (omega (arith, less, before)), get_or-set_other index n i row no_row other)
             (s.each i less))
 
-        pub booked_on : (mark : ℕ) → mark ≡ digest_of (take len (drop start text)) → Booked (set index n row) (set rows n (record { start = start; len = len; mark = mark })) (n + 1) to
-        booked_on mark y =
-            let d = closed_as in
-            record {
-              records = d.closed ∷ s.records;
-              held = record {
-                size = ap suc s.held.size ∙ sym (add-one (length (take n rows))) ∙ sym (ap length (more seen) ∙ length-append (take n rows) (seen ∷ []));
-                paths = here d.path ∙ sym (ap (texts text) (more seen) ∙ texts_more text (take n rows) seen);
-              };
-              seen = subst (AllSeen text) (sym (more seen)) (All-push (IsSeen text) (take n rows) seen s.seen (record { within = d.within; marked = y }));
-              few = omega (arith, booked_few);
-              long = length-set index n row ∙ s.long;
-              room = length-set rows n seen ∙ s.room;
-              place = omega (arith, d.moves, left, s.place);
-              whole =
-                  s.whole ∙ ap (λ (l : Text). judge text (record { records = s.records; here = [] }) (decode 0 at l)) (sym is) ∙ d.whole s.records s.held
-                  ∙ ap (λ (l : Text). judge text (record { records = d.closed ∷ s.records; here = [] }) (decode 0 to l)) on;
-              offsets = offsets_on;
-              each = rows_on;
-            }
+        pub booked_on : (rows' : List Seen) → rows' ≡ rows ++ closed_row text o ∷ [] → Booked (set index n row) rows' to
+        booked_on rows' y = rw y with_it
           where
-            seen : Seen
-            seen = record { start = start; len = len; mark = mark }
+            d : ClosedAs part at text rows to start len
+            d = closed_as
 
-            more : (r : Seen) → take (n + 1) (set rows n r) ≡ take n rows ++ r ∷ []
-            more r = take_more_set rows n r (omega (arith, booked_few, s.room))
-
-            here : {p : Text} → path_of text closed_as.closed ≡ p → map (path_of text) (closed_as.closed ∷ s.records) ≡ p ∷ texts text (take n rows)
+            here : {p : Text} → path_of text closed_as.closed ≡ p → map (path_of text) (closed_as.closed ∷ s.records) ≡ p ∷ texts text rows
             here y = rw (y, s.held.paths) refl
+
+            one_more : length (rows ++ closed_row text o ∷ []) ≡ n + 1
+            one_more = length-append rows (closed_row text o ∷ [])
 
             begun_more : begins (n + 1) (set index n row) ≡ begins n index ++ at ∷ []
             begun_more = ap (map (λ (r : IndexRow). r.begin)) (take_more_set index n row (omega (arith, booked_few, s.long))) ∙ map-append (λ (r : IndexRow). r.begin) (take n index) (row ∷ [])
@@ -183,3 +158,21 @@ module _ (commands text : Text) where
                 ∙ ap (λ (l : List ℕ). begins n index ++ l) (closed_as.begun ∙ ap (λ (l : Text). at ∷ begins_of (decode 0 to l)) on)
                 ∙ sym (append_assoc (begins n index) (at ∷ []) (begins_of (decode 0 to (drop to commands))))
                 ∙ ap (λ (l : List ℕ). l ++ begins_of (decode 0 to (drop to commands))) (sym begun_more)
+
+            with_it : Booked (set index n row) (rows ++ closed_row text o ∷ []) to
+            with_it =
+                record {
+                  records = d.closed ∷ s.records;
+                  held = record {
+                    size = ap suc s.held.size ∙ sym (add-one n) ∙ sym one_more;
+                    paths = here d.path ∙ sym (texts_more text rows (closed_row text o));
+                  };
+                  few = omega (arith, booked_few, one_more);
+                  long = length-set index n row ∙ s.long;
+                  place = omega (arith, d.moves, left, s.place);
+                  whole =
+                      s.whole ∙ ap (λ (l : Text). judge text (record { records = s.records; here = [] }) (decode 0 at l)) (sym is) ∙ d.whole s.records s.held
+                      ∙ ap (λ (l : Text). judge text (record { records = d.closed ∷ s.records; here = [] }) (decode 0 to l)) on;
+                  offsets = rw one_more offsets_on;
+                  each = λ i h. rows_on i (omega (arith, h, one_more));
+                }

@@ -1,2 +1,3 @@
 -- The laws of the loop over the records.
+pub mod Plain
 pub mod Books

@@ -1,27 +1,77 @@
 // The check of a book: its records in turn, and their index.
 #![tactic(auto)]
 
-ghost use Rattle.std.specs.Prelude.{◌≡◌, true};
-ghost use Rattle.strings.specs.Scan.{tame_text};
+ghost use Rattle.std.specs.Prelude.{◌≡◌, ◌≤◌, length, IfSome};
+ghost use Rattle.checker.specs.Parts.{TameParts};
 ghost use Rattle.book.specs.Index.{JudgedAs};
 
-use book::{Fault, IndexRow, MOST_RECORDS, Refusal, Seen, piece};
-use compare::digest;
-use faults::{Before, BookText};
-use meeting::Keys;
+use book::{Fault, IndexRow, MOST_RECORDS, Refusal, piece};
+use faults::{BookText, PARTS};
+use meeting::{Keys, Paths};
 use record_checker::check_record;
-use strings::is_tame;
+use strings::{LONGEST, is_string, is_tame};
 use text::from;
 
 const MOST_COMMANDS: usize = 32768;
 
 const MOST_TEXT: usize = 65535;
 
-// Whether the text is known to be tame. A text that is long beside the commands is not looked at as a whole.
-fn is_known_tame(commands: usize, text: &[u8]) -> bool
-    ensures { result ≡ true → tame_text text.now ≡ true }
+// A text so many times as long as the commands is not looked at as a whole.
+const FAR_LONGER: usize = 32;
+
+// Which parts of the text are tame, where each of the others is plain: a part is no longer than a string may be.
+fn tame_parts(text: &[u8]) -> Option<[bool; PARTS]>
+    requires { length text.now ≤ 65535 }
+    ensures { IfSome result (λ parts. TameParts text.now parts) }
 {
-    text.len() / 8 <= commands && is_tame(text)
+    let mut parts = [false; PARTS];
+    for i in 0..text.len() / LONGEST + 1 {
+        let part = piece(text, LONGEST * i, LONGEST);
+        let tame = is_tame(part);
+        if !tame && !is_string(part) {
+            return None;
+        }
+        parts[i] = tame;
+    }
+    Some(parts)
+}
+
+// A book's text, with what is known of it.
+fn known_text(commands: usize, bytes: &[u8]) -> BookText<'_>
+    requires { length bytes.now ≤ 65535 }
+    ensures { result.bytes.now ≡ bytes.now }
+{
+    let none = [false; PARTS];
+    if commands < bytes.len() / FAR_LONGER {
+        return BookText {
+            bytes,
+            plain: false,
+            tame: false,
+            parts: none,
+        };
+    }
+    if is_tame(bytes) {
+        return BookText {
+            bytes,
+            plain: true,
+            tame: true,
+            parts: none,
+        };
+    }
+    let Some(parts) = tame_parts(bytes) else {
+        return BookText {
+            bytes,
+            plain: false,
+            tame: false,
+            parts: none,
+        };
+    };
+    BookText {
+        bytes,
+        plain: true,
+        tame: false,
+        parts,
+    }
 }
 
 // How many records a book has, or its first refusal. Of an accepted book a row of the index says each record; rows after the last record's are left open.
@@ -39,33 +89,20 @@ pub fn check_book(
             place: 0,
         });
     }
-    let book = BookText {
-        bytes: text,
-        tame: is_known_tame(commands.len(), text),
-    };
+    let book = known_text(commands.len(), text);
     let mut keys = Keys::new();
-    let mut paths = [Seen::NONE; MOST_RECORDS];
-    // The records are counted as they are closed: how many there are, and where the next begins, shows only then.
-    let mut n = 0;
+    let mut paths = Paths::new(text);
+    // As many records are closed as paths are kept; where the next begins shows only when one is closed.
     let mut at = 0;
     while at < commands.len() {
-        let before = Before {
-            text: book,
-            paths: &paths[..n],
-        };
-        let c = check_record(&before, from(commands, at), at, &mut keys)?;
+        let n = paths.len();
+        let c = check_record(&book, &mut paths, from(commands, at), at, &mut keys)?;
         index[n] = IndexRow {
             begin: at,
             start: c.start,
             len: c.len,
         };
-        paths[n] = Seen {
-            start: c.start,
-            len: c.len,
-            mark: digest(piece(text, c.start, c.len)),
-        };
-        n += 1;
         at = c.end;
     }
-    Ok(n)
+    Ok(paths.len())
 }

@@ -1,17 +1,18 @@
 -- The ways out of covers, and the digest. Assumes nothing.
-use mathlib.Core.Path.{◌≡◌, refl, sym}
+use mathlib.Core.Path.{◌≡◌, refl, sym, ◌∙◌}
 use mathlib.Core.List.{[], ◌∷◌, ◌++◌}
 use mathlib.Core.Bool.{false, ◌&&◌, ◌||◌, and-true, and-false, and_assoc}
-use Prim.Native.Nat.{ℕ, ◌<◌}
+use Prim.Native.Nat.{ℕ, ◌+◌, ◌<◌}
 use native.Mathlib.Omega.{arith}
-use lib.Bits.{bit_xor}
-use lib.ListN.{length, get_or}
+use lib.ListN.{length, get_or, take, drop}
+use native.Mathlib.Nat.{add-zero}
 use lib.Dec.{eqb, ltb}
 use Rattle.std.proofs.lemmas.Bool.Decides.{nat_tests}
-use Rattle.std.specs.List.{fold}
 use Rattle.text.specs.Bytes.{Text, slash}
 use Rattle.text.specs.Text.{prefix_of}
-use Rattle.compare.specs.Compare.{covers, mix_from}
+use Rattle.std.proofs.lemmas.List.{get_or-take, get_or-drop}
+use Rattle.std.specs.Int.{w64, from_le_bytes}
+use Rattle.compare.specs.Compare.{covers, word_at}
 
 -- A path over another
 
@@ -58,7 +59,12 @@ module _ (p q : Text) where
 
 -- The digest
 
-pub mix_as_fold : (mix : ℕ) (s : Text) → fold bit_xor mix s ≡ mix_from mix s
-unfolding mix_from
-mix_as_fold mix [] = refl
-mix_as_fold mix (x ∷ s) = mix_as_fold (bit_xor mix x) s
+-- eight bytes named one by one are the word
+pub word_as_bytes : (s : Text) (at : ℕ) →
+    from_le_bytes w64 (get_or s at 0 ∷ get_or s (at + 1) 0 ∷ get_or s (at + 2) 0 ∷ get_or s (at + 3) 0 ∷ get_or s (at + 4) 0 ∷ get_or s (at + 5) 0 ∷ get_or s (at + 6) 0 ∷ get_or s (at + 7) 0 ∷ [])
+    ≡ word_at s at
+unfolding word_at
+word_as_bytes s at =
+    let e : (i : ℕ) → i < 8 → get_or s (at + i) 0 ≡ get_or (take 8 (drop at s)) i 0 = λ i h. sym (get_or-take 8 (drop at s) i 0 h ∙ get_or-drop at s i 0) in
+    let e0 : get_or s at 0 ≡ get_or (take 8 (drop at s)) 0 0 = rw add-zero at (e 0 (omega arith)) in
+    rw (e0, e 1 (omega arith), e 2 (omega arith), e 3 (omega arith), e 4 (omega arith), e 5 (omega arith), e 6 (omega arith), e 7 (omega arith)) refl

@@ -3,13 +3,13 @@ use mathlib.Core.Path.{◌≡◌, refl, sym, ◌∙◌}
 use Rattle.std.proofs.lemmas.Option.{none-some}
 use Rattle.std.proofs.lemmas.Bool.{and_parts}
 use mathlib.Core.List.{List, []}
-use mathlib.Core.Bool.{Bool, true, false, cond}
-use Rattle.std.specs.Prelude.{Some, None}
-use Prim.Native.Nat.{ℕ, ◌+◌, ◌≤◌}
+use mathlib.Core.Bool.{Bool, true, false, not, cond}
+use Rattle.std.specs.Prelude.{Option, Some, None}
+use Prim.Native.Nat.{ℕ, ◌+◌, ◌≤◌, ◌<◌}
 use lib.ListN.{length}
 use native.Mathlib.Omega.{arith}
 use lib.Dec.{leb, eqb}
-use borrow.Author.Tests.{eq-eqb, ne_eqb, eqb-true, leb-true}
+use borrow.Author.Tests.{eq-eqb, ne_eqb, eqb-true, le-leb, lt-leb, leb-true}
 use Rattle.text.specs.Bytes.{Text}
 use Rattle.text.proofs.Picks.{by_test}
 use Rattle.book.specs.declared.Cmd.{Cmd}
@@ -17,6 +17,7 @@ use Rattle.text.specs.Text.{some_of}
 use Rattle.book.specs.Command.{begin, key}
 use Rattle.book.specs.Rules.{in_order, good_string, too_many, given_before, clash, fault_of, text_of}
 use Rattle.book.specs.State.{meets}
+use Rattle.faults.proofs.Keeps.{first_in_order, first_not_in_order, many_begin}
 
 pub good_within : (text : Text) (c : Cmd) → good_string text c ≡ true → c.start + c.len ≤ length text
 unfolding good_string
@@ -49,6 +50,32 @@ module _ (text : Text) (count : ℕ → ℕ) (last n : ℕ) (keys paths : List T
         pub fault_none : (c.op ≡ begin → ⊥) → keys ≡ [] → None ≡ fault_of text count last n keys paths c
         unfolding given_before some_of
         fault_none m y = sym (rest ∙ by_test (eqb c.op key) (λ k. rw (ne_eqb _ _ m, k, y) refl) (λ k. rw (ne_eqb _ _ m, k) refl))
+
+flip : (x b : Bool) → b ≡ not x → x ≡ not b
+flip true b e = rw e refl
+flip false b e = rw e refl
+
+-- a record's first command
+module _ (text : Text) (n : ℕ) (paths : List Text) (c : Cmd) where
+  pub begin_other : c.op < 21 → (c.op ≡ begin → ⊥) → Some 3 ≡ fault_of text (λ k. 0) 0 n [] paths c
+  begin_other h m = fault_order text (λ k. 0) 0 n [] paths c false (first_not_in_order c h m) refl
+
+  module _ (o : c.op ≡ begin) (r : Bool) (d : r ≡ good_string text c) where
+    pub begin_string : r ≡ false → Some 4 ≡ fault_of text (λ k. 0) 0 n [] paths c
+    begin_string = fault_string text (λ k. 0) 0 n [] paths c true (first_in_order c o) refl r d
+
+    module _ (e : r ≡ true) where
+      pub begin_many : 64 ≤ n → Some 5 ≡ fault_of text (λ k. 0) 0 n [] paths c
+      begin_many h = fault_many text (λ k. 0) 0 n [] paths c true (first_in_order c o) refl r d e (leb 64 n) (many_begin (λ k. 0) 0 c c.op refl n o) (le-leb 64 n h)
+
+      pub begin_met : n < 64 → (t : Bool) → t ≡ not (some_of (meets true (text_of text c)) paths) → (b : Bool) → t ≡ b → cond b None (Some 6) ≡ fault_of text (λ k. 0) 0 n [] paths c
+      begin_met h t y b z =
+          either b ∙ fault_path text (λ k. 0) 0 n [] paths c true (first_in_order c o) refl r d e (leb 64 n) (many_begin (λ k. 0) 0 c c.op refl n o) (lt-leb 64 n h)
+          (text_of text c) refl o _ refl (not b) (flip _ b (sym z ∙ y))
+        where
+          either : (b : Bool) → cond {A = Option ℕ} b None (Some 6) ≡ cond (not b) (Some 6) None
+          either true = refl
+          either false = refl
 
 -- a command's fault, told but for the keys before it
 module _ (text : Text) (count : ℕ → ℕ) (last n : ℕ) (keys paths : List Text) (c : Cmd) where

@@ -13,6 +13,11 @@ use borrow.Author.Tests.{eq-eqb, ne_eqb, le-leb, lt-leb, eqb-true, eqb-false, le
 use Rattle.text.specs.Bytes.{Text}
 use Rattle.book.specs.declared.Cmd.{Cmd}
 use Rattle.strings.specs.Strings.{string_rule}
+use Rattle.text.specs.Text.{each_of}
+use Rattle.text.proofs.Scans.{each_as_std}
+use Rattle.std.specs.List.{list_all}
+use Rattle.std.proofs.lemmas.List.{take-append-drop}
+use Rattle.std.proofs.lemmas.List.Folds.{list_all-append}
 use Rattle.strings.specs.Scan.{tame_text}
 use Rattle.strings.proofs.Tame.{tame_part}
 use Rattle.book.specs.Command.{begin, key, target, flag, text_option}
@@ -29,6 +34,14 @@ pub limits_eight : (k : ℕ) → k < 21 → eqb (get_or limits k 0) 0 ≡ false 
 limits_eight k h e =
     leb-true 8 (get_or limits k 0)
     (let z = T_true (eqb (get_or limits k 0) 0 || leb 8 (get_or limits k 0)) (at_each (λ i x. eqb x 0 || leb 8 x) limits tt k h) in rw e at z)
+
+pub true_but_for : (a b : Bool) → (a || b) ≡ true → b ≡ false → a ≡ true
+true_but_for true b e f = refl
+true_but_for false b e f = absurd (true≢false (sym e ∙ f))
+
+-- BEGIN alone comes after nothing
+pub only_begin : (k : ℕ) → k < 21 → get_or openers k 0 ≡ 0 → k ≡ 1
+only_begin k h e = eqb-true k 1 (true_but_for (eqb k 1) (not (eqb (get_or openers k 0) 0)) (T_true _ (at_each (λ i x. eqb i 1 || not (eqb x 0)) openers tt k h)) (rw e refl))
 
 -- an entry of a table
 pub entry_some : (n : ℕ) {k : ℕ} → entry n ≡ Some k → (k ≡ n) × (k ≡ 0 → ⊥)
@@ -79,6 +92,23 @@ module _ (c : Cmd) where
 
   pub slot_small : c.op < 21 → {k : ℕ} → slotted c ≡ Some k → k < 39
   slot_small h e = let s = slotted_some e in omega (arith, s.1, slot_under h s.0)
+
+-- of a record's first command, which is BEGIN
+module _ (c : Cmd) where
+  pub first_in_order : c.op ≡ begin → true ≡ in_order (λ k. 0) 0 c
+  unfolding in_order in_range opened fresh follows
+  first_in_order e = rw e refl
+
+  pub first_not_in_order : c.op < 21 → (c.op ≡ begin → ⊥) → false ≡ in_order (λ k. 0) 0 c
+  unfolding in_order opened
+  first_not_in_order h n = rw (ne_eqb (get_or openers c.op 0) 0 (λ z. n (only_begin c.op h z))) (sym (and-false (in_range c)))
+
+-- behind BEGIN no other comes
+pub begin_not_again : (count : ℕ → ℕ) (last : ℕ) (c : Cmd) → (count begin ≡ 0 → ⊥) → in_order count last c ≡ true → c.op ≡ begin → ⊥
+unfolding in_order fresh slot
+begin_not_again count last c n o e =
+    let w : eqb (count begin) 0 ≡ true = rw e at (and_parts (fresh count last c) _ (and_parts (opened count last c) _ (and_parts (in_range c) _ o).1).1).0 in
+    n (eqb-true (count begin) 0 w)
 
 module _ (count : ℕ → ℕ) (last : ℕ) (c : Cmd) (op : ℕ) (is : op ≡ c.op) where
   module _ (range : in_range c ≡ true) (r : Bool) (e : r ≡ (eqb (get_or openers op 0) 0 || not (eqb (count (get_or openers op 0)) 0))) where
@@ -154,6 +184,18 @@ module _ (text : Text) (c : Cmd) where
 pub cut_text : (text : Text) (c : Cmd) → take (c.start + c.len - c.start) (drop c.start text) ≡ text_of text c
 unfolding text_of
 cut_text text c = let e : c.start + c.len - c.start ≡ c.len = omega arith in ap (λ (k : ℕ). take k (drop c.start text)) e
+
+-- what holds of each byte of a text holds of each in its two parts
+pub each_split : (P : ℕ → Bool) (k : ℕ) (s : Text) → each_of P s ≡ (each_of P (take k s) && each_of P (drop k s))
+each_split P k s =
+    sym (each_as_std P s) ∙ ap (list_all P) (sym (take-append-drop k s)) ∙ list_all-append P (take k s) (drop k s)
+    ∙ rw (each_as_std P (take k s), each_as_std P (drop k s)) refl
+
+-- and so of each in a part of it
+pub each_part : (P : ℕ → Bool) (s : Text) (a b : ℕ) → each_of P s ≡ true → each_of P (take b (drop a s)) ≡ true
+each_part P s a b e =
+    let d : each_of P (drop a s) ≡ true = (and_parts (each_of P (take a s)) _ (sym (each_split P a s) ∙ e)).1 in
+    (and_parts (each_of P (take b (drop a s))) _ (sym (each_split P b (drop a s)) ∙ d)).0
 
 -- a command's string is a part of a tame text
 pub tame_string : (text : Text) (c : Cmd) → tame_text text ≡ true → (s : Text) → s ≡ text_of text c → tame_text s ≡ true

@@ -1,68 +1,165 @@
 // What is wrong with a command, given those before it.
 #![tactic(auto)]
 
-ghost use Rattle.std.specs.Prelude.{◌≡◌, [], Some, true, not, ◌&&◌, ◌||◌, ◌+◌, ◌<◌, ◌≤◌, length, get_or, replicate, eqb, leb, IfOk};
-ghost use Rattle.strings.specs.Strings.{string_rule};
+ghost use Rattle.std.specs.Prelude.{ℕ, ◌≡◌, List, [], ◌∷◌, ◌++◌, Some, true, false, not, ◌&&◌, ◌||◌, ◌+◌, ◌<◌, ◌≤◌, length, get_or, set, take, drop, replicate, eqb, leb, IfOk};
+ghost use Rattle.strings.specs.Strings.{plain_byte, string_rule};
+ghost use Rattle.patterns.specs.Patterns.{pattern_rule};
 ghost use Rattle.strings.specs.Scan.{tame_text};
-ghost use Rattle.book.specs.Command.{key, target};
+ghost use Rattle.book.specs.Command.{begin, key, target};
 ghost use Rattle.book.specs.Rules.{slot, openers, limits, in_order, too_many, text_of, own_rule, good_string, fault_of};
 ghost use Rattle.book.specs.Refusals.{told};
-ghost use Rattle.book.specs.State.{slotted, entry, has, pushed, texts, meets, AllSeen};
-ghost use Rattle.text.specs.Text.{some_of};
+ghost use Rattle.book.specs.State.{slotted, entry, has, pushed, texts, row_of};
+ghost use Rattle.text.specs.Bytes.{Text};
+ghost use Rattle.text.specs.Text.{each_of};
+ghost use Rattle.faults.specs.Parts.{part_of};
 
 use book::{
-    BEGIN, Cmd, EXCLUDE_ITEM, EXTENDS, FILE, FLAG, FLAG_SLOTS, Fault, INCLUDE_ITEM, KEY, LAST_FLAG,
-    LAST_TEXT, MOST_RECORDS, REFERENCE, ROOT_DIR, SLOTS, Seen, TARGET, TARGET_SLOT, TEXT_OPTION,
-    TEXT_SLOTS, string_of,
+    BEGIN, BEGIN_SLOT, Cmd, EXCLUDE_ITEM, EXTENDS, FILE, FLAG, FLAG_SLOTS, Fault, INCLUDE_ITEM,
+    KEY, LAST_FLAG, LAST_TEXT, MOST_RECORDS, REFERENCE, ROOT_DIR, SLOTS, TARGET, TARGET_SLOT,
+    TEXT_OPTION, TEXT_SLOTS, piece,
 };
-use compare::digest;
-use meeting::is_met;
+use meeting::Paths;
 use path_rules::{is_record_path_of, obeys_lead};
-use patterns::is_pattern_of;
-use strings::is_string_of;
+use patterns::{has_stars_apart_at, is_pattern, is_pattern_of};
+use strings::{LONGEST, is_string};
 
 // The least that a limit is.
 const FEWEST: u8 = 8;
 
-// A book's text, and whether it is known to be tame: of a tame text no string breaks the rules of all strings.
+// How many parts of as many bytes as a string may have the longest text has, and one more: a string may end where the last of them does.
+pub const PARTS: usize = 129;
+
+// Where a text ends at the latest.
+const TEXT_END: usize = 65536;
+
+// A book's text, and what is known of it: whether all of it is plain, so that a string breaks none of the rules of all strings but by its length; whether all of it is
+// tame, so that no string has a bracket or a `!` either; and else which parts of it are.
 #[derive(Clone, Copy)]
 pub struct BookText<'a> {
     pub bytes: &'a [u8],
+    pub plain: bool,
     pub tame: bool,
+    pub parts: [bool; PARTS],
+    pub ghost known_plain: { plain ≡ true → each_of plain_byte bytes.now ≡ true },
     pub ghost known: { tame ≡ true → tame_text bytes.now ≡ true },
+    pub ghost known_parts: { (i : ℕ) → get_or parts i false ≡ true → tame_text (part_of bytes.now i) ≡ true },
+}
+
+// Whether s keeps the rule of its own that a command with the byte op has for its string, where it may be known that s is tame.
+fn own_rule(op: u8, tame: bool, s: &[u8]) -> bool
+    requires { tame ≡ true → tame_text s.now ≡ true }
+    ensures { result ≡ own_rule op s.now }
+{
+    match op {
+        BEGIN => is_record_path_of(tame, s),
+        INCLUDE_ITEM | EXCLUDE_ITEM => is_pattern_of(tame, s),
+        EXTENDS | REFERENCE => obeys_lead(s),
+        _ => true,
+    }
 }
 
 impl<'a> BookText<'a> {
-    // Whether s, a part of the text, keeps the rule that a command with the byte op has for its string. Inlined, and `is_held` too, for `is_good` is.
+    // Whether it is known that a string of the text is tame: all of the text is, or the part in which the string begins and the one in which it ends, which have all
+    // of it.
     #[inline(always)]
-    fn own_rule(&self, op: u8, s: &[u8]) -> bool
-        requires { self.now.tame ≡ true → tame_text s.now ≡ true }
-        ensures { result ≡ own_rule op s.now }
+    fn is_tame_at(&self, start: usize, len: usize) -> bool
+        ensures { result ≡ true → tame_text (take len (drop start self.now.bytes.now)) ≡ true }
     {
-        match op {
-            BEGIN => is_record_path_of(self.tame, s),
-            INCLUDE_ITEM | EXCLUDE_ITEM => is_pattern_of(self.tame, s),
-            EXTENDS | REFERENCE => obeys_lead(s),
-            _ => true,
+        if self.tame {
+            return true;
+        }
+        if LONGEST < len || TEXT_END <= start {
+            return false;
+        }
+        self.parts[start / LONGEST] && self.parts[(start + len) / LONGEST]
+    }
+
+    // Whether s, a part of the text, keeps the rules of all strings.
+    #[inline(always)]
+    #[tactic(auto, unfolding(strings::specs::Strings::string_rule))]
+    pub fn is_string(&self, s: &[u8]) -> bool
+        requires { self.now.plain ≡ true → each_of plain_byte s.now ≡ true }
+        ensures { result ≡ string_rule s.now }
+    {
+        s.len() <= LONGEST && (self.plain || is_string(s))
+    }
+
+    // Whether a string of the text may be an item of include or exclude: where it is known to be tame, it is looked at where it stands.
+    #[inline(always)]
+    pub fn is_pattern_at(&self, start: usize, len: usize) -> bool
+        ensures { result ≡ pattern_rule (take len (drop start self.now.bytes.now)) }
+    {
+        if self.is_tame_at(start, len) {
+            has_stars_apart_at(self.bytes, start, len)
+        } else {
+            is_pattern(piece(self.bytes, start, len))
         }
     }
 
-    // Whether a command's string lies in the text and keeps the rules of all strings: all that is asked of a key's, which has no rule of its own.
+    // Whether a command's string lies in the text and keeps the rules of all strings.
     #[inline(always)]
-    pub fn is_held(&self, c: Cmd) -> bool
+    fn is_held(&self, c: Cmd) -> bool
         ensures { result ≡ (leb (c.start + c.len) (length self.now.bytes.now) && string_rule (text_of self.now.bytes.now c)) }
     {
         c.start <= self.bytes.len()
             && c.len <= self.bytes.len() - c.start
-            && is_string_of(self.tame, &self.bytes[c.start..c.start + c.len])
+            && self.is_string(&self.bytes[c.start..c.start + c.len])
     }
 
-    // Whether a command's string lies in the text and keeps its rules: refusal 4 where not. Inlined, for a run of items takes twice as many instructions else.
+    // Whether a command's string lies in the text and keeps its rules: refusal 4 where not. Inlined, and `is_held` too: by a call a record costs 25 instructions more.
     #[inline(always)]
-    pub fn is_good(&self, c: Cmd) -> bool
+    fn is_good(&self, c: Cmd) -> bool
         ensures { result ≡ good_string self.now.bytes.now c }
     {
-        self.is_held(c) && self.own_rule(c.op, &self.bytes[c.start..c.start + c.len])
+        self.is_held(c)
+            && own_rule(
+                c.op,
+                self.is_tame_at(c.start, c.len),
+                &self.bytes[c.start..c.start + c.len],
+            )
+    }
+
+    // What is wrong with a record's first command, if anything is: it must be BEGIN, and its path must meet none of those before. Where nothing is, its path
+    // stands behind those.
+    pub fn begin(&self, paths: &mut Paths<'_>, c: Cmd) -> Result<(), Fault>
+        requires byte { c.op < 21 }
+        requires same_text { paths.old.text ≡ self.now.bytes.now }
+        ensures fault { told result ≡ fault_of self.now.bytes.now (λ k. 0) 0 (length paths.old.rows) [] (texts self.now.bytes.now paths.old.rows) c }
+        ensures rows_after { IfOk result (λ u. (c.op ≡ begin) × (paths.new ≡ record { text = paths.old.text; rows = paths.old.rows ++ row_of self.now.bytes.now c ∷ [] })) }
+    {
+        if c.op != BEGIN {
+            return Err(Fault::OutOfOrder);
+        }
+        if !self.is_good(c) {
+            return Err(Fault::BadString);
+        }
+        if MOST_RECORDS <= paths.len() {
+            return Err(Fault::TooMany);
+        }
+        if !paths.admit(c.start, c.len) {
+            return Err(Fault::GivenBefore);
+        }
+        Ok(())
+    }
+
+    // The slot of a command in which nothing is wrong, behind the BEGIN of its record, or its lowest refusal. A key is not held against those before.
+    pub fn fault_of(&self, tally: &Tally, c: Cmd) -> Result<usize, Fault>
+        requires byte { c.op < 21 }
+        requires begun { has tally.now.counts begin ≡ 0 → ⊥ }
+        ensures fault { (n : ℕ) (paths : List Text) → told result ≡ fault_of self.now.bytes.now (has tally.now.counts) tally.now.last n [] paths c }
+        ensures in_slot { IfOk result (λ k. slotted c ≡ Some k) }
+    {
+        let k = slot_of(c).ok_or(Fault::OutOfOrder)?;
+        if !tally.in_order(c, k) {
+            return Err(Fault::OutOfOrder);
+        }
+        if !self.is_good(c) {
+            return Err(Fault::BadString);
+        }
+        if tally.is_too_many(c, k) {
+            return Err(Fault::TooMany);
+        }
+        Ok(k)
     }
 }
 
@@ -124,12 +221,15 @@ pub struct Tally {
 }
 
 impl Tally {
-    pub fn new() -> Self
-        ensures { (result.counts ≡ replicate 39 0) × (result.last ≡ 0) }
+    // Of a record of which BEGIN alone stands.
+    pub fn begun() -> Self
+        ensures { (result.counts ≡ set (replicate 39 0) begin 1) × (result.last ≡ begin) }
     {
+        let mut counts = [0; SLOTS];
+        counts[BEGIN_SLOT] = 1;
         Tally {
-            counts: [0; SLOTS],
-            last: 0,
+            counts,
+            last: BEGIN,
         }
     }
 
@@ -164,14 +264,11 @@ impl Tally {
         self.is_opened(c.op) && is_fresh(c.op, self.counts[k]) && self.does_follow(c.op)
     }
 
-    // Whether a command, whose slot is k, is one too many, with n records before: refusal 5. Of none that may repeat may there be fewer than 8.
-    fn is_too_many(&self, c: Cmd, k: usize, n: usize) -> bool
-        requires { (c.op < 21) × (slotted c ≡ Some k) }
-        ensures { result ≡ too_many (has self.now.counts) 0 c n }
+    // Whether a command, whose slot is k and which is no BEGIN, is one too many: refusal 5. Of none that may repeat may there be fewer than 8.
+    fn is_too_many(&self, c: Cmd, k: usize) -> bool
+        requires { (c.op < 21) × ((slotted c ≡ Some k) × (c.op ≡ begin → ⊥)) }
+        ensures { (n : ℕ) → result ≡ too_many (has self.now.counts) 0 c n }
     {
-        if c.op == BEGIN {
-            return MOST_RECORDS <= n;
-        }
         let m = self.counts[k];
         if m < FEWEST {
             return false;
@@ -190,45 +287,5 @@ impl Tally {
             self.counts[TARGET_SLOT] = 0;
         }
         self.last = c.op;
-    }
-}
-
-// What a record is held against: the book's text, and the paths of the records before it.
-#[derive(Clone, Copy)]
-pub struct Before<'t, 'p> {
-    pub text: BookText<'t>,
-    pub paths: &'p [Seen],
-    pub ghost seen: { AllSeen text.bytes.now paths.now },
-}
-
-impl Before<'_, '_> {
-    // Whether a record's path meets one of those before.
-    fn is_given(&self, c: Cmd) -> bool
-        ensures { result ≡ some_of (meets true (text_of self.now.text.bytes.now c)) (texts self.now.text.bytes.now self.now.paths.now) }
-    {
-        let s = string_of(self.text.bytes, c);
-        is_met(self.text.bytes, self.paths, s, digest(s))
-    }
-
-    // The slot of a command in which nothing is wrong, or its lowest refusal. A key is not held against those before.
-    pub fn fault_of(&self, tally: &Tally, c: Cmd) -> Result<usize, Fault>
-        requires { c.op < 21 }
-        ensures fault { told result ≡ fault_of self.now.text.bytes.now (has tally.now.counts) tally.now.last (length self.now.paths.now) [] (texts self.now.text.bytes.now self.now.paths.now) c }
-        ensures in_slot { IfOk result (λ k. slotted c ≡ Some k) }
-    {
-        let k = slot_of(c).ok_or(Fault::OutOfOrder)?;
-        if !tally.in_order(c, k) {
-            return Err(Fault::OutOfOrder);
-        }
-        if !self.text.is_good(c) {
-            return Err(Fault::BadString);
-        }
-        if tally.is_too_many(c, k, self.paths.len()) {
-            return Err(Fault::TooMany);
-        }
-        if c.op == BEGIN && self.is_given(c) {
-            return Err(Fault::GivenBefore);
-        }
-        Ok(k)
     }
 }

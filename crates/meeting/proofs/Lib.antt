@@ -1,4 +1,7 @@
 -- The laws of strings that meet.
 pub mod Rows
 pub mod Marks
-pub mod Signs
+pub mod Places
+pub mod Files
+pub mod Keeping
+pub mod Cases

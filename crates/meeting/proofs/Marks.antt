@@ -34,7 +34,7 @@ none_taken P (x ∷ l) (suc n) e = rw (or_parts (P x) (some_of P l) e).0 (none_t
 
 module _ (s text : Text) (mark : ℕ) (m : mark ≡ digest_of s) where
   -- a key of another digest
-  other : (r : Seen) → IsSeen text r → eqb mark r.mark ≡ false → meets false s (string_at text r) ≡ false
+  pub other : (r : Seen) → IsSeen text r → eqb mark r.mark ≡ false → meets false s (string_at text r) ≡ false
   unfolding meets
   other r h e =
       by_test (same_text s (string_at text r))

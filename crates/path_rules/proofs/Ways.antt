@@ -2,9 +2,9 @@
 use mathlib.Core.Path.{◌≡◌, refl, sym, ◌∙◌}
 use mathlib.Core.List.{[], ◌∷◌}
 use mathlib.Core.Bool.{Bool, true, false, not, ◌&&◌, ◌||◌, and-false}
-use Prim.Native.Nat.{ℕ, ◌<◌}
+use Prim.Native.Nat.{ℕ, ◌-◌, ◌<◌}
 use native.Mathlib.Omega.{arith}
-use lib.ListN.{length}
+use lib.ListN.{length, get_or}
 use lib.Dec.{eqb, leb}
 use Rattle.std.proofs.lemmas.Bool.Decides.{nat_tests}
 use Rattle.text.specs.Bytes.{Text, bytes, slash}
@@ -15,10 +15,12 @@ use Rattle.strings.specs.Strings.{none_of, string_rule}
 use Rattle.strings.proofs.Gather.{each_same}
 use Rattle.normal.proofs.Names.{normal_by}
 use Rattle.path_rules.specs.Paths.{record_path, asked_path}
-use Rattle.path_rules.specs.Scan.{free_names}
-use Rattle.path_rules.proofs.Places.{swap}
+use Rattle.path_rules.proofs.Places.{all_plain, plain_free}
 
 -- Barred bytes: those of a record's path are those of a pattern and three more, and a byte named again bars nothing more
+
+swap : (a b c d : Bool) → (a && b) && (c && d) ≡ (a && c) && (b && d)
+swap a b c d = grind (arith, nat_tests)
 
 each_both : (P Q B : ℕ → Bool) (s : Text) → ((x : ℕ) → B x ≡ P x && Q x) → each_of B s ≡ each_of P s && each_of Q s
 unfolding each_of
@@ -49,9 +51,9 @@ module _ (s : Text) (bare : each_of (none_of (bytes "{}[]!")) s ≡ true) where
   unfolding record_path
   record_by = rw (record_bytes s, bare) (grind (arith, nat_tests))
 
-  -- s is long, and is gone over once
-  pub record_plain : 1 < length s → record_path s ≡ starts slash s && free_names s
-  record_plain h = let e = normal_by s in record_by ∙ grind (arith, nat_tests)
+  -- s is long, and plain
+  pub record_plain : 1 < length s → starts slash s ≡ true → (get_or s (length s - 1) 0 ≡ slash → ⊥) → all_plain s → record_path s ≡ true
+  record_plain h a l p = let e = normal_by s in let f = plain_free s a l p in record_by ∙ grind (arith, nat_tests)
 
 pub record_bracket : (s : Text) → each_of (none_of (bytes "{}[]!")) s ≡ false → false ≡ record_path s
 unfolding record_path

@@ -1,17 +1,18 @@
 // The rules of paths: what refusal 4 tests in a record's path, an extends entry and a reference, and 7 in a path that is asked about.
 #![tactic(auto)]
 
-ghost use Rattle.std.specs.Prelude.{◌≤◌, ◌≡◌, [], ◌∷◌, true, ◌&&◌, length, drop, eqb};
+ghost use Rattle.std.specs.Prelude.{ℕ, ◌≡◌, ◌≤◌, ◌<◌, ◌+◌, true, length};
 ghost use Rattle.text.specs.Bytes.{bytes};
 ghost use Rattle.text.specs.Text.{each_of};
 ghost use Rattle.strings.specs.Strings.{none_of};
 ghost use Rattle.strings.specs.Scan.{tame_text};
 ghost use Rattle.path_rules.specs.Paths.{record_path, lead_rule, asked_path};
-ghost use Rattle.path_rules.specs.Scan.{free_names};
+ghost use Rattle.path_rules.specs.Scan.{plain_behind};
 
 use components::is_absolute;
-use normal::{is_normal, no_name};
-use strings::{is_string, lacks, lacks_brackets, one_of};
+use normal::is_normal;
+use std::simd::prelude::*;
+use strings::{is_string, lacks, lacks_brackets};
 use text::{QUESTION, SLASH, STAR};
 
 const HASH: u8 = b'#';
@@ -19,65 +20,72 @@ const HASH: u8 = b'#';
 // The places that are looked at in one step.
 const BLOCK: usize = 16;
 
-// A block's places, and the three bytes behind the last. A shorter path has no block.
-const SHORT: usize = 19;
+// A block's places, and the byte before the first. A shorter path has no block.
+const REACH: usize = BLOCK + 1;
 
-// Whether x is none of `* ? #`.
-fn is_free(x: u8) -> bool
-    ensures { result ≡ none_of (bytes "*?#") x }
+// The bits that a dot and a slash lack of a `?`.
+const LACKED: u8 = 0x11;
+
+// Whether each of the sixteen bytes behind a place is none of `* ? #`, and behind a slash neither a slash nor a dot. It says no of a few others
+// too, which few paths have: one test finds each byte up to `*`, as `#` is, and the other finds `?` and what becomes one by the bits that each
+// byte behind a slash is given.
+#[inline(always)]
+fn is_block_plain(s: &[u8], at: usize) -> bool
+    requires { at + 17 ≤ length s.now }
+    ensures { result ≡ true → (j : ℕ) → j < 16 → plain_behind s.now (at + j) ≡ true }
 {
-    !matches!(x, STAR | QUESTION | HASH)
+    let x = u8x16::from_slice(&s[at..]);
+    let y = u8x16::from_slice(&s[at + 1..]);
+    let given = x
+        .simd_eq(u8x16::splat(SLASH))
+        .select(u8x16::splat(LACKED), u8x16::splat(0));
+    let found = y.simd_le(u8x16::splat(STAR)) | (y | given).simd_eq(u8x16::splat(QUESTION));
+    found.to_bitmask() == 0
 }
 
-// Whether the last three bytes of a path are none of `* ? #`, with a name behind each slash.
-fn ends_free(x: u8, y: u8, z: u8) -> bool
-    ensures { result ≡ free_names (x ∷ y ∷ z ∷ []) }
+// The same of each byte of s but the first. The last block ends where s does, and may lie over a part of the one before. By `while`: with `step_by`
+// each turn takes three instructions more.
+fn has_plain_blocks(s: &[u8]) -> bool
+    requires { 17 ≤ length s.now }
+    ensures { result ≡ true → (k : ℕ) → k + 1 < length s.now → plain_behind s.now k ≡ true }
 {
-    is_free(x)
-        && is_free(y)
-        && is_free(z)
-        && !no_name(x, y, z, SLASH)
-        && !no_name(y, z, SLASH, SLASH)
-        && !no_name(z, SLASH, SLASH, SLASH)
-}
-
-// Whether none of the first sixteen places of s has one of `* ? #` or a slash with no name behind it: each four bytes in a row are looked at, by
-// a loop that never leaves early, so that it works on many bytes at a time.
-fn is_block_free(s: &[u8]) -> bool
-    requires { 19 ≤ length s.now }
-    ensures { free_names s.now ≡ result && free_names (drop 16 s.now) }
-{
-    let mut bad = false;
-    for i in 3..SHORT {
-        bad |= one_of(s[i - 3], STAR, QUESTION, HASH) | no_name(s[i - 3], s[i - 2], s[i - 1], s[i]);
-    }
-    !bad
-}
-
-// Whether s has none of `* ? #` and a name behind each slash, in one pass by whole blocks: but for the last three bytes, none is looked at
-// alone. The last block ends where those begin, and may lie over a part of the one before.
-fn has_free_names(s: &[u8]) -> bool
-    requires { 19 ≤ length s.now }
-    ensures { result ≡ free_names s.now }
-{
-    let n = s.len() - SHORT;
-    for i in (0..n).step_by(BLOCK) {
-        if !is_block_free(&s[i..]) {
+    let n = s.len() - REACH;
+    let mut at = 0;
+    while at < n {
+        if !is_block_plain(s, at) {
             return false;
         }
+        at += BLOCK;
     }
-    is_block_free(&s[n..]) && ends_free(s[n + BLOCK], s[n + BLOCK + 1], s[n + BLOCK + 2])
+    is_block_plain(s, n)
 }
 
-// Whether s, which has none of `{ } [ ] !`, may be the path of a record.
+// Whether s, which has none of `{ } [ ] !`, is known at one look to be the path of a record, as most are: a long one, where no name begins with a
+// dot. What it says no of may still be one.
+fn is_plain_path(s: &[u8]) -> bool
+    requires { each_of (none_of (bytes "{}[]!")) s.now ≡ true }
+    ensures { result ≡ true → record_path s.now ≡ true }
+{
+    REACH <= s.len() && is_absolute(s) && s[s.len() - 1] != SLASH && has_plain_blocks(s)
+}
+
+// Whether s, which has none of `{ } [ ] !`, may be the path of a record, rule by rule. A function of its own, which is seldom called: where it is
+// inlined, the check of a book takes more instructions.
+#[cold]
+#[inline(never)]
+fn keeps_each_rule(s: &[u8]) -> bool
+    requires { each_of (none_of (bytes "{}[]!")) s.now ≡ true }
+    ensures { result ≡ record_path s.now }
+{
+    1 < s.len() && lacks(s, STAR, QUESTION, HASH) && is_normal(s)
+}
+
+// The same, at one look where that is enough.
 fn is_bare_path(s: &[u8]) -> bool
     requires { each_of (none_of (bytes "{}[]!")) s.now ≡ true }
     ensures { result ≡ record_path s.now }
 {
-    if SHORT <= s.len() {
-        return is_absolute(s) && has_free_names(s);
-    }
-    1 < s.len() && lacks(s, STAR, QUESTION, HASH) && is_normal(s)
+    is_plain_path(s) || keeps_each_rule(s)
 }
 
 // Whether s may be the path of a record. Called by host/strings_bench alone, which measures it.

@@ -111,14 +111,14 @@ apart_whole s = apart_alone s ∙ each_same alone whole_stars (split s) alone_wh
 
 -- The loops
 
-apart_short : (s : Text) → length s ≤ 2 → stars_apart s ≡ true
+pub apart_short : (s : Text) → length s ≤ 2 → stars_apart s ≡ true
 unfolding stars_apart clear
 apart_short [] h = refl
 apart_short (x ∷ []) h = refl
 apart_short (x ∷ y ∷ []) h = refl
 apart_short (x ∷ y ∷ z ∷ s) h = absurd (omega arith)
 
-apart_at : (s : Text) (j : ℕ) → j + 2 < length s → stars_apart (drop j s) ≡ not (crowded (get_or s j 0) (get_or s (j + 1) 0) (get_or s (j + 2) 0)) && stars_apart (drop (j + 1) s)
+pub apart_at : (s : Text) (j : ℕ) → j + 2 < length s → stars_apart (drop j s) ≡ not (crowded (get_or s j 0) (get_or s (j + 1) 0) (get_or s (j + 2) 0)) && stars_apart (drop (j + 1) s)
 unfolding stars_apart clear
 apart_at s j h =
     let n : j + 2 ≡ suc (suc j) = omega arith in

@@ -111,9 +111,9 @@ left_key part text ns last at ks (barred f) h c nx is k = f
 -- what is left is looked at: nothing is wrong with the command but that it may be a key given before, and k is the slot that it takes
 module _ (part : Text) (base : ℕ) (text : Text) (rows : List Seen) {ns : List ℕ} {last : ℕ} {ks : List Seen} {at : ℕ} (s : Sofar part base text rows ns last ks at)
     {o : Result (Cmd × ℕ) Stop} (is : o ≡ step_at part at) {c : Cmd} {nx : ℕ} (e : o ≡ Ok (c, nx)) {f : Result ℕ Fault}
-    (g : record { fault : told f ≡ fault_of text (has ns) last (length rows) [] (texts text rows) c; in_slot : IfOk f (λ k. slotted c ≡ Some k) }) {k : ℕ} (ok : f ≡ Ok k) where
+    (g : record { fault : (n : ℕ) (paths : List Text) → told f ≡ fault_of text (has ns) last n [] paths c; in_slot : IfOk f (λ k. slotted c ≡ Some k) }) {k : ℕ} (ok : f ≡ Ok k) where
   d : fault_of text (has ns) last (length rows) [] (texts text rows) c ≡ None
-  d = sym g.fault ∙ ap told ok
+  d = sym (g.fault (length rows) (texts text rows)) ∙ ap told ok
 
   slot_of_it : slotted c ≡ Some k
   slot_of_it = IfOk-at_ok (λ k. slotted c ≡ Some k) ok g.in_slot

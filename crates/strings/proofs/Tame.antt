@@ -3,7 +3,7 @@ use mathlib.Core.Path.{◌≡◌, refl, sym, ap, ◌∙◌}
 use Rattle.std.proofs.lemmas.Bool.{and_parts}
 use mathlib.Core.List.{[], ◌∷◌}
 use mathlib.Core.Bool.{Bool, true, false, not, cond, ◌&&◌, and-true, and-false, true≢false}
-use Prim.Native.Nat.{ℕ, zero, suc, ◌<◌}
+use Prim.Native.Nat.{ℕ, zero, suc, ◌+◌, ◌-◌, ◌%◌, ◌<◌}
 use native.Mathlib.Omega.{arith}
 use lib.ListN.{length, take, drop}
 use lib.Dec.{eqb, leb}
@@ -75,6 +75,12 @@ below_each P (suc n) e x h =
     (λ t. let q : x ≡ n = eqb-true x n t in rw q (and_parts (P n) (each_below P n) e).0)
     (λ f. below_each P n (and_parts (P n) (each_below P n) e).1 x (omega (arith, eqb-false x n f)))
 
+-- two tests agree
+told : (a b : Bool) → cond a b (not b) ≡ true → a ≡ b
+told true b e = sym e
+told false true e = e
+told false false e = refl
+
 -- Two ranges are one where the bit in which a bracket and its brace differ is set: computed for each byte up to the highest.
 abbrev two_ranges : ℕ → Bool
 two_ranges x = not (within 0x5B 0x5D x) && not (within 0x7B 0x7D x)
@@ -91,11 +97,6 @@ ranges_computed = refl
 
 ranges_same : (x : ℕ) → x < 0x7F → one_range x ≡ two_ranges x
 ranges_same x h = told (one_range x) (two_ranges x) (below_each same_ranges 0x7F ranges_computed x h)
-  where
-    told : (a b : Bool) → cond a b (not b) ≡ true → a ≡ b
-    told true b e = sym e
-    told false true e = e
-    told false false e = refl
 
 tame_ranges : (x : ℕ) → within 0x22 0x7E x && one_range x ≡ tame_byte x
 tame_ranges x = ranges (leb x 0x7E) refl
@@ -111,3 +112,20 @@ tame_rest x i r e = ap not e ∙ (sym (ap (λ t. t && one_range x) i) ∙ tame_r
 pub tame_string : (s : Text) → tame_text s ≡ true → leb (length s) 512 ≡ string_rule s
 unfolding string_rule
 tame_string s e = rw (tame_plain s e) (sym (and-true (leb (length s) 512)))
+
+-- The two lanes of a byte, raised and above the raised brace, tell whether it is tame: computed for each byte.
+abbrev pub raised : ℕ → ℕ
+raised x = (x + 0x81) % 0x100
+
+abbrev pub above : ℕ → ℕ
+above x = (bit_or (raised x) 0x20 + (0x100 - 0xFC)) % 0x100
+
+abbrev same_lanes : ℕ → Bool
+same_lanes x = cond (tame_byte x) (leb 0xA3 (raised x) && leb 3 (above x)) (not (leb 0xA3 (raised x) && leb 3 (above x)))
+
+lanes_computed : each_below same_lanes 0x100 ≡ true
+unfolding each_below
+lanes_computed = refl
+
+pub tame_raised : (x : ℕ) → x < 0x100 → tame_byte x ≡ leb 0xA3 (raised x) && leb 3 (above x)
+tame_raised x h = told _ _ (below_each same_lanes 0x100 lanes_computed x h)

@@ -6,8 +6,8 @@ use mathlib.Core.Bool.{Bool, true, false, not, ◌&&◌, true≢false, and-true}
 use Rattle.std.specs.Prelude.{Some, None}
 use Prim.Native.Nat.{ℕ, ◌+◌, ◌-◌, ◌≤◌, ◌<◌}
 use native.Mathlib.Omega.{arith}
-use lib.ListN.{length, get_or, drop}
-use lib.Seq.{drop-cons}
+use lib.ListN.{length, get_or, take, drop}
+use lib.Seq.{drop-cons, get_or-drop}
 use lib.Dec.{eqb, leb, ltb}
 use types.Run.{OneOf}
 use borrow.Author.Tests.{le-leb, lt-leb, lt-ltb, le-ltb, eqb-false, leb-false, ltb-true, not-true}
@@ -26,6 +26,7 @@ use Rattle.book.specs.declared.Seen.{Seen}
 use Rattle.book.specs.State.{has, pushed, slotted, texts, meets}
 use Rattle.book.proofs.Table.{at_keys}
 use Rattle.book.proofs.Steps.{step_command, operands_op, no_command, one_command}
+use Rattle.faults.proofs.Keeps.{held_on, cut_text}
 use Rattle.usual.specs.Usual.{key_fine, Taken, keyed, barred}
 use Rattle.usual.proofs.Passing.{lone, clear_of, slot_told}
 
@@ -34,11 +35,26 @@ plain : (s : Text) → own_rule key s ≡ true
 unfolding own_rule
 plain s = refl
 
-pub held_good : (text : Text) (c : Cmd) → c.op ≡ key → (r : Bool) → r ≡ (leb (c.start + c.len) (length text) && string_rule (text_of text c)) → r ≡ good_string text c
+held_good : (text : Text) (c : Cmd) → c.op ≡ key → (r : Bool) → r ≡ (leb (c.start + c.len) (length text) && string_rule (text_of text c)) → r ≡ good_string text c
 unfolding good_string
 held_good text c k r e =
     e ∙ ap (λ (b : Bool). leb (c.start + c.len) (length text) && b)
     (sym (and-true (string_rule (text_of text c))) ∙ ap (λ (b : Bool). string_rule (text_of text c) && b) (sym (ap (λ (o : ℕ). own_rule o (text_of text c)) k ∙ plain (text_of text c))))
+
+-- its place in the text by the tests of the code, and its string where it lies there
+module _ (text : Text) (c : Cmd) where
+  pub out_wrong : length text < c.start + c.len → false ≡ good_string text c
+  unfolding good_string
+  out_wrong h = rw (lt-leb (c.start + c.len) (length text) h) refl
+
+  pub in_good : c.op ≡ key → c.start + c.len ≤ length text → (r : Bool) → r ≡ string_rule (take (c.start + c.len - c.start) (drop c.start text)) → r ≡ good_string text c
+  in_good k h r e = held_good text c k r (held_on text c h r (e ∙ ap string_rule (cut_text text c)))
+
+-- where a command's string ends is a small number
+pub end_small : (part : Text) → ((i : ℕ) → get_or part i 0 < 256) → (at : ℕ) (c : Cmd) → c ≡ operands 4 (drop at part) → c.start + c.len < 131072
+unfolding operands
+end_small part f at c e =
+    rw e (rw (get_or-drop at part 1 0, get_or-drop at part 2 0, get_or-drop at part 3 0, get_or-drop at part 4 0) (omega (arith, f (at + 1), f (at + 2), f (at + 3), f (at + 4))))
 
 new_key : (keys paths : List Text) (s : Text) → some_of (meets false s) keys ≡ false → given_before keys paths key s ≡ false
 unfolding given_before meets

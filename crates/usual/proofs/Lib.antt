@@ -3,3 +3,4 @@ pub mod Most
 pub mod Passing
 pub mod Flags
 pub mod Keys
+pub mod Runs

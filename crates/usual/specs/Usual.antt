@@ -11,26 +11,18 @@ use Rattle.book.specs.Steps.{step_at}
 use Rattle.book.specs.declared.Seen.{Seen}
 use Rattle.book.specs.State.{has, pushed, slotted, texts, row_of, meets}
 
--- at the offset stands a command of that byte, a string behind it that keeps its rules
-unfoldable pub fitting : Text → ℕ → Text → ℕ → Bool
-fitting part at text op = not (leb (length part - at) 4) && (eqb (get_or part at 0) op && good_string text (operands 4 (drop at part)))
-
 -- how many of a command a record may have: its limit, or one
 abbrev pub most_of : ℕ → ℕ
 most_of op = cond (eqb (get_or limits op 0) 0) 1 (get_or limits op 0)
 
--- what a command must come after is there: its opener, and a target's key with only targets between
-abbrev pub open_now : List ℕ → ℕ → ℕ → Bool
-open_now counts last op =
-    (not (eqb op target) || (eqb last key || eqb last target)) && (eqb (get_or openers op 0) 0 || not (eqb (has counts (get_or openers op 0)) 0))
-
--- how many there may be now of a command with a string, neither BEGIN nor a key: none where it may not come
-unfoldable pub most_now : List ℕ → ℕ → ℕ → ℕ
-most_now counts last op = cond (eqb (width_of op) 4 && (not (eqb op begin || eqb op key) && open_now counts last op)) (most_of op) 0
-
--- a command that comes once may be counted in the slot: the record has begun, and none stands
-abbrev pub once : List ℕ → ℕ → Bool
-once counts k = not (eqb (has counts begin) 0) && eqb (has counts k) 0
+-- A command with a string, neither BEGIN nor a key, that may come now: what it must come after is there. A record may have so many of it.
+pub record Open (counts : List ℕ) (last op most : ℕ) : Type 0 where
+  pub width : width_of op ≡ 4
+  pub no_begin : op ≡ begin → ⊥
+  pub no_key : op ≡ key → ⊥
+  pub follow : (not (eqb op target) || (eqb last key || eqb last target)) ≡ true
+  pub unlocked : (eqb (get_or openers op 0) 0 || not (eqb (has counts (get_or openers op 0)) 0)) ≡ true
+  pub limit : most ≡ most_of op
 
 -- The key at the offset, where a key stands there, is without a fault and was not given before.
 unfoldable pub key_fine : Text → ℕ → Text → List ℕ → List Seen → Bool

@@ -3,7 +3,7 @@ use mathlib.Core.Path.{◌≡◌, refl, sym, ap, subst, fun_ext, ◌∙◌}
 use Rattle.std.proofs.lemmas.Option.{none-some}
 use Rattle.std.proofs.lemmas.Bool.{and_parts}
 use mathlib.Core.List.{List, [], ◌∷◌, ◌++◌, map, reverse, reverse_aux}
-use mathlib.Core.Bool.{Bool, true, false, not, ◌||◌, cond, true≢false}
+use mathlib.Core.Bool.{true, false, not, cond, true≢false}
 use Rattle.std.specs.Prelude.{Option, Some, None}
 use Prim.Native.Nat.{ℕ, suc, ◌+◌, ◌-◌, ◌≤◌, ◌<◌}
 use native.Mathlib.Omega.{arith}
@@ -32,8 +32,7 @@ use Rattle.book.specs.Checks.{Held, ClosedAs}
 use Rattle.book.specs.Steps.{step_at}
 use Rattle.book.proofs.Steps.{decoded, decode_step, Moved, step_moves, step_ends, step_begins}
 use Rattle.text.proofs.Picks.{by_test}
-use Rattle.faults.proofs.Keeps.{slotted_some, slot_small, agree_push, agree_none, limits_small, slot_key}
-use Rattle.book.proofs.Table.{at_each, T_true}
+use Rattle.faults.proofs.Keeps.{slotted_some, slot_small, true_but_for, only_begin, agree_push, agree_none, limits_small, slot_key}
 use Rattle.faults.proofs.Faults.{good_within, fault_kept, fault_given}
 
 -- what a command without a fault is
@@ -57,13 +56,6 @@ module _ (text : Text) (count : ℕ → ℕ) (last n : ℕ) (keys paths : List T
       (λ b. let y : Some 4 ≡ None = rw (a, b) at z in absurd (none-some _ (sym y))))
       (λ a. let y : Some 3 ≡ None = rw a at z in absurd (none-some _ (sym y)))
 
-or_right : (a b : Bool) → (a || b) ≡ true → b ≡ false → a ≡ true
-or_right true b e f = refl
-or_right false b e f = absurd (true≢false (sym e ∙ f))
-
-only_begin : (k : ℕ) → k < 21 → get_or openers k 0 ≡ 0 → k ≡ 1
-only_begin k h e = eqb-true k 1 (or_right (eqb k 1) (not (eqb (get_or openers k 0) 0)) (T_true _ (at_each (λ i x. eqb i 1 || not (eqb x 0)) openers tt k h)) (rw e refl))
-
 -- what the rules of order say of a command that keeps them
 module _ (count : ℕ → ℕ) (last : ℕ) (c : Cmd) (o : in_order count last c ≡ true) where
   pub was_opened : opened count last c ≡ true
@@ -77,7 +69,7 @@ module _ (count : ℕ → ℕ) (last : ℕ) (c : Cmd) (o : in_order count last c
   -- the first command of a record is its BEGIN
   first_begins : c.op < 21 → ((k : ℕ) → count k ≡ 0) → c.op ≡ begin
   unfolding opened
-  first_begins h z = only_begin c.op h (eqb-true (get_or openers c.op 0) 0 (or_right (eqb (get_or openers c.op 0) 0) (not (eqb (count (get_or openers c.op 0)) 0)) was_opened (rw (z (get_or openers c.op 0)) refl)))
+  first_begins h z = only_begin c.op h (eqb-true (get_or openers c.op 0) 0 (true_but_for (eqb (get_or openers c.op 0) 0) (not (eqb (count (get_or openers c.op 0)) 0)) was_opened (rw (z (get_or openers c.op 0)) refl)))
 
   -- a BEGIN is the first
   begin_first : c.op ≡ begin → count begin ≡ 0

@@ -1,26 +1,28 @@
-use Rattle.std.proofs.Common.{ℕ, ◌+◌, ◌≤◌, get_or, ap, arith, rules}
-use Rattle.usual.specs.Usual.{still}
-use Rattle.usual.proofs.Most.{now}
-use Rattle.usual.proofs.Passing.{known, run_taken}
+use Rattle.std.proofs.Common.{rules, arith}
+use Rattle.usual.proofs.Passing.{run_none, run_more, small}
+use Rattle.usual.proofs.Runs.{item_good}
 use Rattle.usual.proofs.pass_run.Goals as goal
 
-pub returns-then-most-eq0-clause-passed : goal.returns-then-most-eq0-clause-passed
-returns-then-most-eq0-clause-passed c = still
+pub loop-tally-init : goal.loop-tally-init
+loop-tally-init g c = run_none _ _ _ _ _ _ c.requires.open (search rules) c.requires.place
 
 pub bounds-tally-k : goal.bounds-tally-k
-bounds-tally-k c = omega (arith, c.from-k.ensures, known c.args.op 4 (now c.args.tally.now.counts c.args.tally.now.last c.args.op _ c.most_now-most.ensures c.if-most-eq0.false).width (λ e. absurd (omega (arith, e))))
+bounds-tally-k g c = omega (arith, c.from-k.ensures, small c.requires.open)
 
-pub returns-then-n-eq0-clause-passed : goal.returns-then-n-eq0-clause-passed
-returns-then-n-eq0-clause-passed c = still
+pub bounds-tally-k-in-loop-tally : goal.bounds-tally-k-in-loop-tally
+bounds-tally-k-in-loop-tally g c = omega (arith, c.from-k.ensures, small c.requires.open)
 
-pub bounds-tally-k-2 : goal.bounds-tally-k-2
-bounds-tally-k-2 c = omega (arith, c.from-k.ensures, known c.args.op 4 (now c.args.tally.now.counts c.args.tally.now.last c.args.op _ c.most_now-most.ensures c.if-most-eq0.false).width (λ e. absurd (omega (arith, e))))
+pub bounds-tally-k-in-loop-tally-2 : goal.bounds-tally-k-in-loop-tally-2
+bounds-tally-k-in-loop-tally-2 g c = omega (arith, c.from-k.ensures, small c.requires.open)
 
-pub returns-clause-passed : goal.returns-clause-passed
-returns-clause-passed c =
+pub loop-tally-preserved : goal.loop-tally-preserved
+loop-tally-preserved g c =
     let a = c.args in
-    let counts = a.tally.now.counts in
-    let m = ap (λ (i : ℕ). get_or counts i 0) c.from-k.ensures in
-    let few : get_or counts a.op 0 + c.run_length-n.result ≤ c.most_now-most.result = omega (arith, m, c.run_length-n.ensures.bound, c.saturating_sub.ensures, c.if-n-eq0.false) in
-    rw (c.from-k.ensures, c.from.ensures)
-    (run_taken a.part.now a.text.now counts a.tally.now.last a.at a.op (now counts a.tally.now.last a.op _ c.most_now-most.ensures c.if-most-eq0.false) (search rules) c.requires.0 c.run_length-n.result c.if-n-eq0.false few c.run_length-n.ensures.fit)
+    let plain = a.text.now.known_plain (search rules) in
+    let own = c.requires.rule c.word_at-start.result c.word_at-len.result c.keeps.result (omega arith) c.keeps.ensures in
+    let good = item_good a.part.now c.loop-tally.to a.text.now.bytes.now a.op plain (omega arith) c.if-part-to.true
+    c.word_at-start.result c.word_at-start.ensures c.word_at-len.result c.word_at-len.ensures (omega arith) (omega arith)
+    c.keeps.result own c.if-not-keeps.false in
+    rw c.from-k.ensures
+    (run_more a.part.now a.text.now.bytes.now a.tally.now.counts a.tally.now.last a.at a.op c.requires.open c.loop-tally.invariant (omega arith) c.if-part-to.true good
+    (rw c.from-k.ensures at c.loop-tally-test.true))
