@@ -7,7 +7,7 @@ scratch=${1:-$(mktemp -d)}
 "$root/host/staticlib.sh"
 cc -O2 -Wall -Wextra -Werror -o "$scratch/bench" "$here/bench.c" "${TSCONFIG_QUESTIONS_LIB:-$root/target/staticlib/libquestions.a}"
 python3 "$here/books.py" "$scratch"
-for name in typical workspace limits wide ladder; do
+for name in typical led workspace limits led-limits wide ladder; do
     while IFS= read -r line; do
         instructions=$(valgrind --tool=callgrind --toggle-collect=question --callgrind-out-file=/dev/null "$scratch/bench" once "$scratch/$name.cmd" "$scratch/$name.txt" "$line" 2>&1 | sed -n 's/.*Collected : //p')
         answer=$("$scratch/bench" once "$scratch/$name.cmd" "$scratch/$name.txt" "$line")

@@ -1,6 +1,7 @@
 #!/usr/bin/env python3
 """books.py FOLDER: the books of docs/SPEED.md's figures, each as NAME.cmd and NAME.txt, and NAME.ask with its question lines.
 typical: a base config and 19 packages that extend it; each question needs two configs of the book. limits: the same with 63 packages, as large as the limits of a book let them be.
+led, led-limits: the same two, where the base has an outDir of `${configDir}/dist`, whose brace a check that looks at the text as a whole meets.
 layered: a preset, a base that extends it and 18 packages with four references each; a question needs seven. laden: the same with 62 packages as large as those of limits. The crate takes
 about as long for a question on these two as it took when the goals of speed were set.
 workspace: 20 configs with references, as a workspace of packages has them: a base with a key for each package, a root config of references alone, and packages that refer to the four
@@ -23,12 +24,14 @@ class Book:
         self.commands += bytes([command, start % 256, start // 256, n % 256, n // 256])
 
 
-def base(book):
+def base(book, led=False):
     book.put(1, '/repo/tsconfig.base.json')
     book.put(9, '.')
     book.lone(10)
     book.put(11, '@shared/*')
     book.put(12, 'packages/shared/src/*')
+    if led:
+        book.put(16, '${configDir}/dist')
     book.lone(18, 0, 1, 20)
 
 
@@ -192,9 +195,9 @@ def hostile(book):
     book.lone(20)
 
 
-def packages(one, count):
+def packages(one, count, led=False):
     book = Book()
-    base(book)
+    base(book, led)
     for n in range(count):
         one(book, n)
     last = f'/repo/packages/part-{count - 1:02}'
@@ -213,6 +216,7 @@ def alone():
 def main(folder):
     books = {'typical': packages(usual, 19), 'workspace': workspace(), 'limits': packages(large, 63), 'wide': wide(63)}
     books |= {'layered': layered(usual, 18, 4), 'laden': layered(large, 62, 4)}
+    books |= {'led': packages(usual, 19, True), 'led-limits': packages(large, 63, True)}
     rungs = Book()
     for n in range(60):
         ladder(rungs, n)

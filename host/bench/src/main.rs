@@ -12,7 +12,7 @@ use std::process::{Command, ExitCode};
 use asked::{Book, Line, fresh_answers, library_answers};
 use measure::{Measured, measure, measure_whole};
 
-const BOOKS: [&str; 9] = ["typical", "layered", "workspace", "limits", "laden", "wide", "ladder", "rungs", "hostile"];
+const BOOKS: [&str; 11] = ["typical", "led", "layered", "workspace", "limits", "led-limits", "laden", "wide", "ladder", "rungs", "hostile"];
 const GROWTH: [usize; 7] = [1, 2, 4, 8, 16, 32, 64];
 const USAGE: &str = "bench FOLDER ROUNDS";
 
