@@ -1,7 +1,7 @@
 #!/usr/bin/env python3
-"""changed.py [--check] [COMMIT]: writes docs/DESIGN-PASS-CHANGES.md, the contracts of COMMIT beside those of this checkout.
+"""changed.py [--check]: writes docs/DESIGN-PASS-CHANGES.md, the contracts of the commit at which the design pass began beside those of the one at which it ended.
 
-COMMIT is the first line of docs/DESIGN-PASS.md where none is given. Listed are, crate by crate in the order of crates.txt: each public function whose signature or clauses changed, each other function whose
+The commits are the first two lines of docs/DESIGN-PASS.md. Listed are, crate by crate in the order of crates.txt: each public function whose signature or clauses changed, each other function whose
 clauses changed, types with their ghost fields, public constants, definitions of specs/, and the theorems that a reader was told of; old and new side by side, then what is new. By text alone, as the kit's
 contracts.py: what is found again is what has its crate, type and name, or its name and its text elsewhere. What states the promise of what is gone is read from the tables of docs/DESIGN-PASS.md, and what
 they do not name is a warning. With --check nothing is written: it ends with 1 where the page on disk is another.
@@ -43,12 +43,6 @@ def committed(commit):
     packed = subprocess.run(['git', '-C', ROOT, 'archive', commit, 'crates', 'docs', 'README.md'], capture_output=True, check=True).stdout
     with tarfile.open(fileobj=io.BytesIO(packed)) as tree:
         return {m.name: tree.extractfile(m).read().decode() for m in tree if m.isfile() and wanted(m.name)}
-
-
-def here():
-    """The files of this checkout by their paths."""
-    paths = [p for kind in ('src', 'specs', 'proofs') for p in ROOT.glob('crates/*/%s/**/*' % kind)]
-    return {str(p.relative_to(ROOT)): p.read_text() for p in paths if p.is_file() and wanted(str(p.relative_to(ROOT)))}
 
 
 def wanted(name):
@@ -444,7 +438,7 @@ def crates(kinds):
 
 HEAD = """# What the design pass changed, old and new
 
-`tools/changed.py` writes this page and `tools/changed.py --check` says whether it is still what the sources are. Old is commit %s, with which docs/DESIGN-PASS.md begins; new is this checkout. The crates stand in the order of crates.txt, without those of which nothing is to be told.
+`tools/changed.py` writes this page, and `tools/changed.py --check` says whether it would write the same. Old is commit %s and new is %s, with which docs/DESIGN-PASS.md begins. The crates stand in the order of crates.txt, without those of which nothing is to be told.
 
 - Functions: public ones whose signature or clauses differ, and others whose clauses do; of those that are as they were, the public ones are counted. Types with their ghost fields, impls of traits with their ghost items, public constants. The definitions of specs/.
 - Theorems, by their statements: those of specs/, the public ones of %s in `questions/proofs`, and lemmas that README.md or a page of docs/ names in backticks, at the old commit or at that of the port.
@@ -457,9 +451,9 @@ HEAD = """# What the design pass changed, old and new
 """
 
 
-def page(commit, kinds):
+def page(first, last, kinds):
     alike_words = '; '.join(', '.join('`%s`' % w for w in group) for group in SPELT)
-    lines = (HEAD % (commit[:7], ', '.join('`%s`' % Path(t).stem for t in THEOREMS), alike_words)).split('\n')[:-1] + [k.counts() for k in kinds] + ['']
+    lines = (HEAD % (first[:7], last[:7], ', '.join('`%s`' % Path(t).stem for t in THEOREMS), alike_words)).split('\n')[:-1] + [k.counts() for k in kinds] + ['']
     for crate in crates(kinds):
         inside = [line for k in kinds for line in k.lines(crate)] + fresh(kinds, crate)
         lines += ['## `%s`' % crate, ''] + inside if inside else []
@@ -470,9 +464,9 @@ def page(commit, kinds):
     return '\n'.join(lines)
 
 
-def compared(commit):
+def compared(first, last):
     """What is compared, kind by kind."""
-    then, now, port = committed(commit), here(), committed((ROOT / 'docs/PORT.md').read_text().split('\n')[0])
+    then, now, port = committed(first), committed(last), committed((ROOT / 'docs/PORT.md').read_text().split('\n')[0])
     (code, specs, proofs), (new_code, new_specs, new_proofs) = items_of(then), items_of(now)
     others = {x.name for x in code + specs} | {x.crate for x in code + specs}
     laws = theorems(specs, proofs, named(then) | named(port), others)
@@ -483,10 +477,9 @@ def compared(commit):
 
 
 def main():
-    rest = [a for a in sys.argv[1:] if a != '--check']
-    commit = rest[0] if rest else (ROOT / TABLES).read_text().split('\n')[0]
-    kinds = compared(commit)
-    text = page(commit, kinds)
+    first, last = (ROOT / TABLES).read_text().split('\n')[:2]
+    kinds = compared(first, last)
+    text = page(first, last, kinds)
     for warning in (w for k in kinds for w in k.unnamed()):
         print(warning, file=sys.stderr)
     if '--check' not in sys.argv:
