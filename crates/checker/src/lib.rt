@@ -1,8 +1,7 @@
 // The check of a book: its records in turn, and their index.
 #![tactic(auto)]
 
-ghost use Rattle.std.specs.Prelude.{◌≡◌, ◌≤◌, length, IfSome};
-ghost use Rattle.checker.specs.Parts.{TameParts};
+ghost use Rattle.std.specs.Prelude.{◌≡◌, ◌≤◌, length};
 ghost use Rattle.book.specs.Index.{JudgedAs};
 
 use book::{Fault, IndexRow, MOST_RECORDS, Refusal, piece};
@@ -16,60 +15,45 @@ const MOST_COMMANDS: usize = 32768;
 
 const MOST_TEXT: usize = 65535;
 
-// A text so many times as long as the commands is not looked at as a whole.
+// A text so many times as long as the commands is not looked at beforehand.
 const FAR_LONGER: usize = 32;
 
-// Which parts of the text are tame, where each of the others is plain: a part is no longer than a string may be.
-fn tame_parts(text: &[u8]) -> Option<[bool; PARTS]>
-    requires { length text.now ≤ 65535 }
-    ensures { IfSome result (λ parts. TameParts text.now parts) }
+// A book's text of which nothing is known.
+fn unknown(bytes: &[u8]) -> BookText<'_>
+    ensures { result.bytes.now ≡ bytes.now }
 {
-    let mut parts = [false; PARTS];
-    for i in 0..text.len() / LONGEST + 1 {
-        let part = piece(text, LONGEST * i, LONGEST);
-        let tame = is_tame(part);
-        if !tame && !is_string(part) {
-            return None;
-        }
-        parts[i] = tame;
+    let none = [false; PARTS];
+    BookText {
+        bytes,
+        plain: false,
+        tame: false,
+        parts: none,
     }
-    Some(parts)
 }
 
-// A book's text, with what is known of it.
+// A book's text, with what is known of it: it is looked at part by part, each as long as a string may be.
 fn known_text(commands: usize, bytes: &[u8]) -> BookText<'_>
     requires { length bytes.now ≤ 65535 }
     ensures { result.bytes.now ≡ bytes.now }
 {
-    let none = [false; PARTS];
     if commands < bytes.len() / FAR_LONGER {
-        return BookText {
-            bytes,
-            plain: false,
-            tame: false,
-            parts: none,
-        };
+        return unknown(bytes);
     }
-    if is_tame(bytes) {
-        return BookText {
-            bytes,
-            plain: true,
-            tame: true,
-            parts: none,
-        };
+    let mut parts = [false; PARTS];
+    let mut tame = true;
+    for i in 0..bytes.len() / LONGEST + 1 {
+        let part = piece(bytes, LONGEST * i, LONGEST);
+        let part_tame = is_tame(part);
+        if !part_tame && !is_string(part) {
+            return unknown(bytes);
+        }
+        parts[i] = part_tame;
+        tame &= part_tame;
     }
-    let Some(parts) = tame_parts(bytes) else {
-        return BookText {
-            bytes,
-            plain: false,
-            tame: false,
-            parts: none,
-        };
-    };
     BookText {
         bytes,
         plain: true,
-        tame: false,
+        tame,
         parts,
     }
 }

@@ -28,9 +28,10 @@ use Rattle.book.specs.Checks.{Held, ClosedAs}
 use Rattle.book.specs.Steps.{step_at}
 use Rattle.book.specs.declared.Seen.{Seen}
 use Rattle.book.specs.State.{has, pushed, slotted, texts, meets}
-use Rattle.book.proofs.Steps.{step_command}
+use Rattle.book.proofs.Steps.{step_command, step_moves}
 use Rattle.verdicts.proofs.Turns.{Sofar, Clear, clear, was_opened, end_first, keys_few, turn_met, turn_long, turn_closed, turn_on, turn_slot, turn_less, slot_room, clear_on}
-use Rattle.usual.specs.Usual.{key_fine, Taken, passed, keyed, barred}
+use Rattle.record_checker.proofs.Passes.{passed_forth}
+use Rattle.usual.specs.Usual.{key_fine, Passed, still, more, keyed, barred, Taken, passed, behind}
 use Rattle.usual.proofs.Passing.{clear_still}
 use Rattle.usual.proofs.Keys.{Standing, standing, was_given}
 
@@ -101,12 +102,17 @@ module _ (part : Text) (base : ℕ) (text : Text) (rows : List Seen) {ns : List 
         let y : r ≡ true = rv ∙ rw (lt-leb (length part) at stands.inside, b, behind_begin end q, end_first (has ns) last c sound.order q) refl in
         true≢false (sym y ∙ no)
 
+-- where the offset stays, nothing was taken
+passed_none : (part text : Text) (ns : List ℕ) (last at : ℕ) {ns' : List ℕ} {last' to : ℕ} → Passed part text ns last at ns' last' to → to ≤ at → ns ≡ ns'
+passed_none part text ns last at still h = refl
+passed_none part text ns last at (more {at' = p} {c = c} {nx = nx} x e u) h = absurd (omega (arith, h, passed_forth part text ns last at x, (step_moves part p c nx (sym e)).forth))
+
 -- a key that was not taken is not fine
 pub left_key : (part text : Text) (ns : List ℕ) (last at : ℕ) (ks : List Seen) {ns' : List ℕ} {last' to : ℕ} {ks' : List Seen} → Taken part text ns last at ks ns' last' to ks' → to ≤ at →
     (c : Cmd) (nx : ℕ) → Ok (c, nx) ≡ step_at part at → c.op ≡ key → key_fine part at text ns' ks' ≡ false
-left_key part text ns last at ks (passed o p _) h c nx is k = absurd (o (sym (standing part at c nx is).byte ∙ k))
-left_key part text ns last at ks (keyed byte fine) h c nx is k = absurd (omega (arith, h))
-left_key part text ns last at ks (barred f) h c nx is k = f
+left_key part text ns last at ks (passed o p) h c nx is k = absurd (o (sym (standing part at c nx is).byte ∙ k))
+left_key part text ns last at ks (behind {counts' = ms} {last' = l} {mid = m} (keyed here fine) p) h c nx is k = absurd (omega (arith, h, passed_forth part text ms l m p))
+left_key part text ns last at ks (behind {mid = m} (barred f) p) h c nx is k = rw (← passed_none part text ns last at p h) f
 
 -- what is left is looked at: nothing is wrong with the command but that it may be a key given before, and k is the slot that it takes
 module _ (part : Text) (base : ℕ) (text : Text) (rows : List Seen) {ns : List ℕ} {last : ℕ} {ks : List Seen} {at : ℕ} (s : Sofar part base text rows ns last ks at)

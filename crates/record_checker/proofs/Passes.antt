@@ -12,17 +12,20 @@ use Rattle.book.specs.declared.Seen.{Seen}
 use Rattle.book.specs.State.{pushed, texts, row_of}
 use Rattle.book.proofs.Steps.{step_moves}
 use Rattle.verdicts.proofs.Turns.{Sofar, turn_on}
-use Rattle.usual.specs.Usual.{key_fine, Passed, still, more, Taken, passed, keyed, barred}
+use Rattle.usual.specs.Usual.{key_fine, Passed, still, more, Keyed, keyed, barred, Taken, passed, behind}
 use Rattle.usual.proofs.Keys.{key_op, key_reads, key_slotted, key_clear}
 
-passed_forth : (part text : Text) (ns : List ℕ) (last at : ℕ) {ns' : List ℕ} {last' at' : ℕ} → Passed part text ns last at ns' last' at' → at ≤ at'
+pub passed_forth : (part text : Text) (ns : List ℕ) (last at : ℕ) {ns' : List ℕ} {last' at' : ℕ} → Passed part text ns last at ns' last' at' → at ≤ at'
 passed_forth part text ns last at still = omega arith
 passed_forth part text ns last at (more {at' = p} {c = c} {nx = nx} x e u) = omega (arith, passed_forth part text ns last at x, (step_moves part p c nx (sym e)).forth)
 
+key_forth : (part text : Text) (ns : List ℕ) (last at : ℕ) (ks : List Seen) {ns' : List ℕ} {last' to : ℕ} {ks' : List Seen} → Keyed part text ns last at ks ns' last' to ks' → at ≤ to
+key_forth part text ns last at ks (keyed byte fine) = omega arith
+key_forth part text ns last at ks (barred f) = omega arith
+
 back : (part text : Text) (ns : List ℕ) (last at : ℕ) (ks : List Seen) {ns' : List ℕ} {last' to : ℕ} {ks' : List Seen} → Taken part text ns last at ks ns' last' to ks' → to ≤ at → to ≡ at
-back part text ns last at ks (passed o p _) h = omega (arith, h, passed_forth part text ns last at p)
-back part text ns last at ks (keyed byte fine) h = absurd (omega (arith, h))
-back part text ns last at ks (barred f) h = refl
+back part text ns last at ks (passed o p) h = omega (arith, h, passed_forth part text ns last at p)
+back part text ns last at ks (behind {counts' = ms} {last' = l} {mid = m} k p) h = omega (arith, h, key_forth part text ns last at ks k, passed_forth part text ms l m p)
 
 module _ (part : Text) (base : ℕ) (text : Text) (rows : List Seen) where
   module _ {ns : List ℕ} {last : ℕ} {ks : List Seen} {at : ℕ} (s : Sofar part base text rows ns last ks at) where
@@ -43,11 +46,15 @@ module _ (part : Text) (base : ℕ) (text : Text) (rows : List Seen) where
         (ks ++ row_of text (operands 4 (drop at part)) ∷ []) (rw (eq-eqb (operands 4 (drop at part)).op key (sym (key_op part at text ns ks byte fine))) refl)
         (λ q. absurd (omega (arith, q, key_op part at text ns ks byte fine))) _ refl _ refl)
 
+    key_part : {ns' : List ℕ} {last' to : ℕ} {ks' : List Seen} → Keyed part text ns last at ks ns' last' to ks' → Sofar part base text rows ns' last' ks' to
+    key_part (keyed byte fine) = key_on byte fine
+    key_part (barred f) = s
+
+  module _ {ns : List ℕ} {last : ℕ} {ks : List Seen} {at : ℕ} (s : Sofar part base text rows ns last ks at) where
     -- commands were taken
     pub moved_on : {ns' : List ℕ} {last' to : ℕ} {ks' : List Seen} → Taken part text ns last at ks ns' last' to ks' → Sofar part base text rows ns' last' ks' to
-    moved_on (passed o p _) = passed_on p
-    moved_on (keyed byte fine) = key_on byte fine
-    moved_on (barred f) = s
+    moved_on (passed o p) = passed_on s p
+    moved_on (behind k p) = passed_on (key_part s k) p
 
     -- none was taken
     pub stood : {ns' : List ℕ} {last' to : ℕ} {ks' : List Seen} → Taken part text ns last at ks ns' last' to ks' → to ≤ at → Sofar part base text rows ns' last' ks' at

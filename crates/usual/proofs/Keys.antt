@@ -6,11 +6,10 @@ use mathlib.Core.Bool.{Bool, true, false, not, ◌&&◌, true≢false, and-true}
 use Rattle.std.specs.Prelude.{Some, None}
 use Prim.Native.Nat.{ℕ, ◌+◌, ◌-◌, ◌≤◌, ◌<◌}
 use native.Mathlib.Omega.{arith}
-use lib.ListN.{length, get_or, take, drop}
+use lib.ListN.{length, get_or, set, take, drop}
 use lib.Seq.{drop-cons, get_or-drop}
 use lib.Dec.{eqb, leb, ltb}
-use types.Run.{OneOf}
-use borrow.Author.Tests.{le-leb, lt-leb, lt-ltb, le-ltb, eqb-false, leb-false, ltb-true, not-true}
+use borrow.Author.Tests.{le-leb, lt-leb, lt-ltb, le-ltb, leb-false, ltb-true, not-true}
 use Rattle.text.specs.Bytes.{Text}
 use Rattle.text.specs.Text.{some_of}
 use Rattle.text.proofs.Picks.{by_test}
@@ -19,16 +18,15 @@ use Rattle.strings.specs.Strings.{string_rule}
 use Rattle.book.specs.declared.Cmd.{Cmd}
 use Rattle.std.specs.Prelude.{Result, Ok}
 use Rattle.book.specs.declared.Stop.{Stop}
-use Rattle.book.specs.Command.{key, width_of, operands}
+use Rattle.book.specs.Command.{begin, key, width_of, operands}
 use Rattle.book.specs.Rules.{text_of, own_rule, good_string, given_before, fault_of}
 use Rattle.book.specs.Steps.{step_at}
 use Rattle.book.specs.declared.Seen.{Seen}
 use Rattle.book.specs.State.{has, pushed, slotted, texts, meets}
-use Rattle.book.proofs.Table.{at_keys}
 use Rattle.book.proofs.Steps.{step_command, operands_op, no_command, one_command}
 use Rattle.faults.proofs.Keeps.{held_on, cut_text}
-use Rattle.usual.specs.Usual.{key_fine, Taken, keyed, barred}
-use Rattle.usual.proofs.Passing.{lone, clear_of, slot_told}
+use Rattle.usual.specs.Usual.{key_fine, still, Keyed, keyed, barred, Taken, behind}
+use Rattle.usual.proofs.Passing.{clear_of, slot_told, begun_set}
 
 -- a key's string has no rule of its own
 plain : (s : Text) → own_rule key s ≡ true
@@ -96,12 +94,12 @@ module _ (part : Text) (at : ℕ) (text : Text) (ns : List ℕ) (keys : List See
   pub key_put :
       (last : ℕ) → get_or part at 0 ≡ key → key_fine part at text ns keys ≡ true → (c : Cmd) → c ≡ operands 4 (drop at part) → (d : ℕ) → d ≡ digest_of (text_of text c) →
       {ns' : List ℕ} {last' : ℕ} {keys' : List Seen} → ns' ≡ pushed ns c 11 → last' ≡ c.op → keys' ≡ keys ++ record { start = c.start; len = c.len; mark = d } ∷ [] →
-      Taken part text ns last at keys ns' last' (at + 5) keys'
+      Keyed part text ns last at keys ns' last' (at + 5) keys'
   unfolding text_of
   key_put last byte fine c e d f a b k = rw (a, b, k, f, e) (keyed byte fine)
 
   pub none_there : (last : ℕ) → length part ≤ at → Taken part text ns last at keys ns last at keys
-  none_there last h = barred (fine_short (omega (arith, h)))
+  none_there last h = behind (barred (fine_short (omega (arith, h)))) still
 
   -- what is known of a key that is fine
   module _ (byte : get_or part at 0 ≡ key) (fine : key_fine part at text ns keys ≡ true) where
@@ -144,8 +142,18 @@ module _ (part : Text) (at : ℕ) (text : Text) (ns : List ℕ) (keys : List See
           (ap (λ (o : ℕ). given_before (texts text keys) paths o (text_of text (operands 4 (drop at part)))) (sym key_op)
           ∙ new_key (texts text keys) paths (text_of text (operands 4 (drop at part))) (not-true _ (and_parts (good_string text (operands 4 (drop at part))) _ rest₃).1))
 
-pub lone_no_key : (op : ℕ) → OneOf lone op → op ≡ key → ⊥
-lone_no_key op h = eqb-false op key (not-true _ (at_keys (λ i. not (eqb i key)) lone tt op h))
+-- behind a key that was taken, or where none was
+module _ {part text : Text} {ns : List ℕ} {last at : ℕ} {keys : List Seen} where
+  pub keyed_place : {ns' : List ℕ} {last' to : ℕ} {keys' : List Seen} → Keyed part text ns last at keys ns' last' to keys' → at ≤ length part → to ≤ length part
+  keyed_place (keyed byte fine) h = omega (arith, key_long part at text ns keys byte fine)
+  keyed_place (barred f) h = h
+
+  pub keyed_begun : {ns' : List ℕ} {last' to : ℕ} {keys' : List Seen} → Keyed part text ns last at keys ns' last' to keys' → (has ns begin ≡ 0 → ⊥) → has ns' begin ≡ 0 → ⊥
+  unfolding pushed
+  keyed_begun (keyed byte fine) b =
+      let q : (operands 4 (drop at part)).op ≡ 11 = sym (key_op part at text ns keys byte fine) in
+      rw q (begun_set (set ns 11 (has ns 11 + 1)) 12 0 (λ e. absurd (omega (arith, e))) (begun_set ns 11 (has ns 11 + 1) (λ e. absurd (omega (arith, e))) b))
+  keyed_begun (barred f) b = b
 
 -- the command that stands at the offset
 module _ (part : Text) (at : ℕ) (c : Cmd) (nx : ℕ) (is : Ok (c, nx) ≡ step_at part at) where

@@ -1,6 +1,6 @@
 -- A command that fits is usual, and so is one without operands that comes for the first time. Assumes nothing.
 use mathlib.Core.Path.{◌≡◌, refl, sym, ap, ◌∙◌}
-use mathlib.Core.List.{List, [], ◌∷◌}
+use mathlib.Core.List.{List, []}
 use mathlib.Core.Bool.{Bool, true, false, not, ◌||◌, cond, or-true}
 use Rattle.std.specs.Prelude.{Some, None}
 use Prim.Native.Nat.{ℕ, ◌+◌, ◌-◌, ◌≤◌, ◌<◌}
@@ -8,7 +8,6 @@ use native.Mathlib.Omega.{arith}
 use lib.ListN.{length, get_or, set, drop, length-set}
 use lib.Seq.{drop-cons, get_or-set_other}
 use lib.Dec.{T, eqb, ltb}
-use types.Run.{OneOf}
 use borrow.Author.Tests.{eq-eqb, ne_eqb, le-leb, lt-leb, eqb-true, eqb-false, ltb-true, lt-ltb, not-true}
 use Rattle.text.specs.Bytes.{Text}
 use Rattle.text.specs.Text.{each_of}
@@ -20,7 +19,7 @@ use Rattle.book.specs.Command.{begin, key, target, flag, text_option, end, width
 use Rattle.book.specs.Rules.{slot, in_range, openers, limits, in_order, too_many, text_of, own_rule, good_string, given_before, fault_of}
 use Rattle.book.specs.Steps.{step_at}
 use Rattle.book.specs.State.{has, pushed, slotted}
-use Rattle.book.proofs.Table.{every, at_each, at_keys, T_true}
+use Rattle.book.proofs.Table.{every, at_each, T_true}
 use Rattle.book.proofs.Steps.{step_command}
 use Rattle.faults.proofs.Keeps.{order_on, many_once, many_on}
 use Rattle.usual.specs.Usual.{most_of, Open, Usual, Passed, still, more}
@@ -44,12 +43,11 @@ known : (op w : ℕ) → width_of op ≡ w → (w ≡ 9 → ⊥) → op < 21
 unfolding width_of
 known op w e n = by_test (ltb op 21) (λ y. ltb-true op 21 y) (λ y. let z : 9 ≡ w = rw y at e in absurd (n (sym z)))
 
+pub small_width : {op : ℕ} → width_of op ≡ 0 → op < 21
+small_width e = known _ 0 e (λ z. absurd (omega (arith, z)))
+
 pub small : {ns : List ℕ} {last op most : ℕ} → Open ns last op most → op < 21
 small may = known _ 4 may.width (λ e. absurd (omega (arith, e)))
-
--- the commands that are a byte alone, but for END
-abbrev pub lone : List ℕ
-lone = 2 ∷ 4 ∷ 6 ∷ 10 ∷ 14 ∷ []
 
 -- a command whose slot is its byte, of which what follows is known
 module _ (text : Text) (ns : List ℕ) (last : ℕ) (c : Cmd) (op : ℕ) (is : op ≡ c.op) (small : op < 21) (no_flag : op ≡ flag → ⊥) (no_text : op ≡ text_option → ⊥) where
@@ -112,18 +110,16 @@ recast part text ns₀ last at a b d x = rw (← a, ← b, ← d) x
 head_byte : (part : Text) (at : ℕ) → at < length part → get_or (drop at part) 0 0 ≡ get_or part at 0
 head_byte part at h = rw (drop-cons part at 0 h) refl
 
--- the last command's byte, where nothing is taken and where something is
-
-pub last_still : (at last x l : ℕ) → l ≡ last → l ≡ cond (eqb at at) last x
-last_still at last x l e = rw (eq-eqb at at refl) e
-
-pub last_on : (at to : ℕ) → at < to → (last x l : ℕ) → l ≡ x → l ≡ cond (eqb to at) last x
-last_on at to h last x l e = rw (ne_eqb to at (λ q. omega (arith, h, q))) e
+-- what is taken behind what was taken
+pub joined :
+    {part text : Text} {ns₀ : List ℕ} {last₀ at : ℕ} {ns : List ℕ} {last mid : ℕ} {ns' : List ℕ} {last' to : ℕ} → Passed part text ns₀ last₀ at ns last mid → Passed part text ns last mid ns' last' to →
+    Passed part text ns₀ last₀ at ns' last' to
+joined x still = x
+joined x (more y e u) = more (joined x y) e u
 
 -- what holds before each command of a run
 pub record Running (part text : Text) (ns₀ : List ℕ) (last₀ at op : ℕ) (ns : List ℕ) (last to : ℕ) : Type 0 where
   pub passed : Passed part text ns₀ last₀ at ns last to
-  pub latest : last ≡ cond (eqb to at) last₀ op
   pub forth : at ≤ to
   pub follow : (not (eqb op target) || (eqb last key || eqb last target)) ≡ true
   pub unlocked : (eqb (get_or openers op 0) 0 || not (eqb (has ns (get_or openers op 0)) 0)) ≡ true
@@ -142,7 +138,6 @@ module _ (part text : Text) (ns₀ : List ℕ) (last at : ℕ) where
     run_none l h =
         record {
           passed = still;
-          latest = last_still at last op last refl;
           forth = omega arith;
           follow = may.follow;
           unlocked = may.unlocked;
@@ -187,7 +182,6 @@ module _ (part text : Text) (ns₀ : List ℕ) (last at : ℕ) where
       pub run_more : Running part text ns₀ last at op (set ns op (has ns op + 1)) op (to + 5)
       run_more =
           record {
-            latest = last_on at (to + 5) (omega (arith, s.forth)) last op op refl;
             forth = omega (arith, s.forth);
             passed = recast part text ns₀ last at counted (sym op_is) (omega arith) (more s.passed reads taken);
             follow = by_test (eqb op target) (λ e. rw e (or-true (eqb op key))) (λ e. rw e refl);
@@ -199,12 +193,6 @@ module _ (part text : Text) (ns₀ : List ℕ) (last at : ℕ) where
   -- a command that comes once, by its slot
   module _ (k : ℕ) (ns : List ℕ) (nv : ns ≡ cond (eqb (has ns₀ k) 0) (set ns₀ k 1) ns₀) (x l : ℕ) (lv : l ≡ cond (eqb (has ns₀ k) 0) x last)
       (next to : ℕ) (tv : to ≡ cond (eqb (has ns₀ k) 0) next at) where
-    pub once_last : at < next → l ≡ cond (eqb to at) last x
-    once_last h =
-        by_test (eqb (has ns₀ k) 0)
-        (λ y. let q : to ≡ next = tv ∙ rw y refl in rw q (last_on at next h last x l (lv ∙ rw y refl)))
-        (λ y. let q : to ≡ at = tv ∙ rw y refl in rw q (last_still at last x l (lv ∙ rw y refl)))
-
     pub once_taken : (has ns₀ k ≡ 0 → Passed part text ns₀ last at (set ns₀ k (has ns₀ k + 1)) x next) → Passed part text ns₀ last at ns l to
     once_taken f =
         by_test (eqb (has ns₀ k) 0)
@@ -212,12 +200,12 @@ module _ (part text : Text) (ns₀ : List ℕ) (last at : ℕ) where
         (λ y. recast part text ns₀ last at (sym (nv ∙ rw y refl)) (sym (lv ∙ rw y refl)) (sym (tv ∙ rw y refl)) still)
 
   -- one that is a byte alone
-  module _ (k : ℕ) (begun : has ns₀ begin ≡ 0 → ⊥) (h : at < length part) (is : k ≡ get_or part at 0) (among : OneOf lone (get_or part at 0)) (first : has ns₀ k ≡ 0) where
-    alone : (f : ℕ → Bool) → T (every (λ i x. f x) 0 lone) → f k ≡ true
-    alone f t = ap f is ∙ at_keys f lone t (get_or part at 0) among
-
+  module _ (k : ℕ) (begun : has ns₀ begin ≡ 0 → ⊥) (h : at < length part) (is : k ≡ get_or part at 0) (alone : width_of k ≡ 0) (no_end : k ≡ end → ⊥) (first : has ns₀ k ≡ 0) where
     small_lone : k < 21
-    small_lone = ltb-true k 21 (alone (λ i. ltb i 21) tt)
+    small_lone = small_width alone
+
+    lone : (f : ℕ → Bool) → T (every (λ i x. not (eqb x 0) || (eqb i end || f i)) 0 widths) → f k ≡ true
+    lone f t = let z = by_width 0 (λ i. eqb i end || f i) t k small_lone alone in rw (ne_eqb k end no_end) at z
 
     lone_cmd : Cmd
     lone_cmd = operands 0 (drop at part)
@@ -228,30 +216,39 @@ module _ (part text : Text) (ns₀ : List ℕ) (last at : ℕ) where
 
     lone_good : good_string text lone_cmd ≡ true
     unfolding good_string lone_cmd operands text_of own_rule string_rule each_of
-    lone_good = rw (← lone_op, le-leb (0 + 0) (length text) (omega arith)) (alone (λ i. own_rule i []) tt)
+    lone_good = rw (← lone_op, le-leb (0 + 0) (length text) (omega arith)) (lone (λ i. own_rule i []) tt)
 
     lone_reads : step_at part at ≡ Ok (lone_cmd, at + 0 + 1)
     unfolding lone_cmd width_of
     lone_reads =
-        sym (step_command part at 0 (operands 0 (drop at part)) h (sym (ap width_of (sym is) ∙ eqb-true (width_of k) 0 (alone (λ i. eqb (width_of i) 0) tt)))
+        sym (step_command part at 0 (operands 0 (drop at part)) h (sym (ap width_of (sym is) ∙ alone))
         (λ e. absurd (omega (arith, e))) (omega (arith, h)) refl)
 
     unlocked_here : (eqb (get_or openers k 0) 0 || not (eqb (has ns₀ (get_or openers k 0)) 0)) ≡ true
-    unlocked_here = rw (eqb-true (get_or openers k 0) begin (alone (λ i. eqb (get_or openers i 0) begin) tt), ne_eqb (has ns₀ begin) 0 begun) refl
+    unlocked_here = rw (eqb-true (get_or openers k 0) begin (lone (λ i. eqb (get_or openers i 0) begin) tt), ne_eqb (has ns₀ begin) 0 begun) refl
 
     lone_room : has ns₀ k < most_of k
-    lone_room = rw (alone (λ i. eqb (get_or limits i 0) 0) tt, first) (omega arith)
+    lone_room = rw (lone (λ i. eqb (get_or limits i 0) 0) tt, first) (omega arith)
 
-    no_such : (i : ℕ) → T (every (λ j x. not (eqb x i)) 0 lone) → k ≡ i → ⊥
-    no_such i t = no_eqb k i (alone (λ x. not (eqb x i)) t)
+    no_such : (i : ℕ) → T (every (λ j x. not (eqb x 0) || (eqb j end || not (eqb j i))) 0 widths) → k ≡ i → ⊥
+    no_such i t = no_eqb k i (lone (λ x. not (eqb x i)) t)
 
-    pub lone_on : Passed part text ns₀ last at (set ns₀ k (has ns₀ k + 1)) (get_or part at 0) (at + 1)
-    lone_on =
+    lone_there : Passed part text ns₀ last at (set ns₀ k (has ns₀ k + 1)) k (at + 1)
+    lone_there =
         recast part text ns₀ last at
         (pushed_one text ns₀ last lone_cmd k lone_op small_lone (no_such flag tt) (no_such text_option tt) (no_such begin tt)
-        (alone (λ i. not (eqb i target) || (eqb last key || eqb last target)) tt) unlocked_here lone_room lone_good (no_such key tt))
-        (sym lone_op ∙ is)
+        (lone (λ i. not (eqb i target) || (eqb last key || eqb last target)) tt) unlocked_here lone_room lone_good (no_such key tt))
+        (sym lone_op)
         (omega arith)
         (more still lone_reads
         (usual text ns₀ last lone_cmd k lone_op small_lone (no_such flag tt) (no_such text_option tt) (no_such begin tt)
-        (alone (λ i. not (eqb i target) || (eqb last key || eqb last target)) tt) unlocked_here lone_room lone_good (no_such key tt) (no_such end tt)))
+        (lone (λ i. not (eqb i target) || (eqb last key || eqb last target)) tt) unlocked_here lone_room lone_good (no_such key tt) no_end))
+
+  pub lone_on :
+      (op : ℕ) → (has ns₀ begin ≡ 0 → ⊥) → at < length part → op ≡ get_or part at 0 → width_of op ≡ 0 → (op ≡ end → ⊥) → (k : ℕ) → k ≡ op → has ns₀ k ≡ 0 →
+      Passed part text ns₀ last at (set ns₀ k (has ns₀ k + 1)) op (at + 1)
+  lone_on op begun h is alone no_end k e first = rw e (lone_there op begun h is alone no_end (rw e at first))
+
+-- BEGIN stands behind a command in another slot
+pub begun_set : (ns : List ℕ) (k n : ℕ) → (k ≡ begin → ⊥) → (has ns begin ≡ 0 → ⊥) → has (set ns k n) begin ≡ 0 → ⊥
+begun_set ns k n other b e = b (sym (get_or-set_other ns k begin n 0 (λ q. other (sym q))) ∙ e)

@@ -46,13 +46,16 @@ pub data Passed (part text : Text) (counts : List ℕ) (last at : ℕ) : List �
       {counts' : List ℕ} {last' at' k : ℕ} {c : Cmd} {nx : ℕ} → Passed part text counts last at counts' last' at' → step_at part at' ≡ Ok (c, nx) → Usual text counts' last' k c →
       Passed part text counts last at (pushed counts' c k) c.op nx
 
--- What was taken from the offset on: usual commands, the last of which has the byte that stands at the offset, or a key, whose row comes behind the others; or nothing, where a key
--- is not fine or none stands there.
-pub data Taken (part text : Text) (counts : List ℕ) (last at : ℕ) (keys : List Seen) : List ℕ → ℕ → ℕ → List Seen → Type 0 where
-  passed :
-      {counts' : List ℕ} {last' to : ℕ} → (get_or part at 0 ≡ key → ⊥) → Passed part text counts last at counts' last' to → last' ≡ cond (eqb to at) last (get_or part at 0) →
-      Taken part text counts last at keys counts' last' to keys
+-- A key that was taken at the offset, whose row comes behind the others; or nothing, where a key is not fine or none stands there.
+pub data Keyed (part text : Text) (counts : List ℕ) (last at : ℕ) (keys : List Seen) : List ℕ → ℕ → ℕ → List Seen → Type 0 where
   keyed :
       get_or part at 0 ≡ key → key_fine part at text counts keys ≡ true →
-      Taken part text counts last at keys (pushed counts (operands 4 (drop at part)) key) (operands 4 (drop at part)).op (at + 5) (keys ++ row_of text (operands 4 (drop at part)) ∷ [])
-  barred : key_fine part at text counts keys ≡ false → Taken part text counts last at keys counts last at keys
+      Keyed part text counts last at keys (pushed counts (operands 4 (drop at part)) key) (operands 4 (drop at part)).op (at + 5) (keys ++ row_of text (operands 4 (drop at part)) ∷ [])
+  barred : key_fine part at text counts keys ≡ false → Keyed part text counts last at keys counts last at keys
+
+-- What was taken from the offset on: usual commands, where no key stands there; or a key, and usual commands behind it.
+pub data Taken (part text : Text) (counts : List ℕ) (last at : ℕ) (keys : List Seen) : List ℕ → ℕ → ℕ → List Seen → Type 0 where
+  passed : {counts' : List ℕ} {last' to : ℕ} → (get_or part at 0 ≡ key → ⊥) → Passed part text counts last at counts' last' to → Taken part text counts last at keys counts' last' to keys
+  behind :
+      {counts' counts'' : List ℕ} {last' last'' mid to : ℕ} {keys' : List Seen} → Keyed part text counts last at keys counts' last' mid keys' → Passed part text counts' last' mid counts'' last'' to →
+      Taken part text counts last at keys counts'' last'' to keys'

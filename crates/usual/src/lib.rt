@@ -3,10 +3,10 @@
 #![tactic(auto)]
 
 ghost use Rattle.std.specs.Prelude.{◌≡◌, List, Bool, true, not, cond, ℕ, ◌+◌, ◌*◌, ◌≤◌, ◌<◌, length, get_or, take, drop, set, eqb};
-ghost use Rattle.book.specs.Command.{begin, key, flag, text_option};
+ghost use Rattle.book.specs.Command.{begin, key, flag, text_option, end, width_of};
 ghost use Rattle.book.specs.Rules.{own_rule};
 ghost use Rattle.book.specs.State.{has, AllSeen};
-ghost use Rattle.usual.specs.Usual.{Open, Passed, Taken};
+ghost use Rattle.usual.specs.Usual.{Open, Passed, Keyed, Taken};
 
 use book::{
     BASE_URL, DECLARATION_DIR, EXCLUDE, EXCLUDE_ITEM, EXTENDS, FILE, FILES, FLAG, FLAG_SLOTS,
@@ -38,7 +38,7 @@ fn is_any(_start: usize, _len: usize) -> bool
 
 // Takes the commands with the byte op from the offset on, one behind the other, as many as fit: each has a string that lies in the text, is short enough and keeps
 // its rule, and a record may have so many of them at most. The rule is handed in, so that the loop is compiled by itself for each.
-// In a plain text alone: with the other rules of strings the run is too long for the loop, and a check at the limits takes three tenths more instructions.
+// In a plain text alone: with the other rules of strings the loop would be long.
 // The offset after them; where none fits it is the same, and no Option, here and below: the next command is looked at from it in either case. Commands, offset and
 // tally are handed on by themselves, here and below: the tally alone is changed, and the record checker goes on with each of the three.
 #[inline(always)]
@@ -56,8 +56,7 @@ fn pass_run<R: Fn(usize, usize) -> bool>(
     requires callable { R.IsAlwaysCallable keeps }
     requires open { Open tally.old.counts tally.old.last op most }
     requires rule { (start len : ℕ) (r : Bool) → start + len ≤ length text.now.bytes.now → R.post keeps start len r → r ≡ own_rule op (take len (drop start text.now.bytes.now)) }
-    ensures passed { Passed part.now text.now.bytes.now tally.old.counts tally.old.last at tally.new.counts tally.new.last result }
-    ensures last { tally.new.last ≡ cond (eqb result at) tally.old.last op }
+    ensures { Passed part.now text.now.bytes.now tally.old.counts tally.old.last at tally.new.counts tally.new.last result }
 {
     if !text.plain {
         return at;
@@ -78,15 +77,14 @@ fn pass_run<R: Fn(usize, usize) -> bool>(
 }
 
 // Takes the commands with a string from the offset on, where they may come now; a key is none of them. For each kind its opener, its limit and its rule stand here as
-// constants, at one match on the byte: each is known where its run is compiled. What `faults` has as openers and limits stands here once more: by one table for both a
-// check of a small book takes more than 5 in 100 more instructions.
+// constants, at one match on the byte: each is known where its run is compiled. What `faults` has as openers and limits stands here once more: looked up, they
+// would be no constants.
 #[inline(always)]
 #[tactic(auto, using(crate::specs::Usual::still))]
 fn pass_strings(text: &BookText<'_>, part: &[u8], at: usize, tally: &mut Tally, op: u8) -> usize
     requires place { at ≤ length part.now }
     requires begun { has tally.old.counts begin ≡ 0 → ⊥ }
-    ensures passed { Passed part.now text.now.bytes.now tally.old.counts tally.old.last at tally.new.counts tally.new.last result }
-    ensures last { tally.new.last ≡ cond (eqb result at) tally.old.last op }
+    ensures { Passed part.now text.now.bytes.now tally.old.counts tally.old.last at tally.new.counts tally.new.last result }
 {
     let stars = |start, len| text.is_pattern_at(start, len);
     let lead = |start, len| obeys_lead(piece(text.bytes, start, len));
@@ -127,8 +125,7 @@ fn pass_once(at: usize, next: usize, tally: &mut Tally, op: u8, k: usize) -> usi
 fn pass_flag(part: &[u8], at: usize, tally: &mut Tally) -> usize
     requires at_in_bounds { (at < length part.now) × (get_or part.now at 0 ≡ flag) }
     requires begun { has tally.old.counts begin ≡ 0 → ⊥ }
-    ensures passed { (text : List ℕ) → Passed part.now text tally.old.counts tally.old.last at tally.new.counts tally.new.last result }
-    ensures last { tally.new.last ≡ cond (eqb result at) tally.old.last flag }
+    ensures { (text : List ℕ) → Passed part.now text tally.old.counts tally.old.last at tally.new.counts tally.new.last result }
 {
     if part.len() - at < FLAG_STRIDE || LAST_FLAG < part[at + 1] || 1 < part[at + 2] {
         return at;
@@ -142,8 +139,7 @@ fn pass_flag(part: &[u8], at: usize, tally: &mut Tally) -> usize
 fn pass_text(text: &BookText<'_>, part: &[u8], at: usize, tally: &mut Tally) -> usize
     requires at_in_bounds { (at < length part.now) × (get_or part.now at 0 ≡ text_option) }
     requires begun { has tally.old.counts begin ≡ 0 → ⊥ }
-    ensures passed { Passed part.now text.now.bytes.now tally.old.counts tally.old.last at tally.new.counts tally.new.last result }
-    ensures last { tally.new.last ≡ cond (eqb result at) tally.old.last text_option }
+    ensures { Passed part.now text.now.bytes.now tally.old.counts tally.old.last at tally.new.counts tally.new.last result }
 {
     if part.len() - at < TEXT_STRIDE || LAST_TEXT < part[at + 1] {
         return at;
@@ -168,7 +164,7 @@ fn pass_key(
     requires at_in_bounds { (at < length part.now) × (get_or part.now at 0 ≡ key) }
     requires seen { AllSeen text.now.bytes.now keys.old }
     requires count { has tally.old.counts key ≡ length keys.old }
-    ensures { Taken part.now text.now.bytes.now tally.old.counts tally.old.last at keys.old tally.new.counts tally.new.last result keys.new }
+    ensures { Keyed part.now text.now.bytes.now tally.old.counts tally.old.last at keys.old tally.new.counts tally.new.last result keys.new }
 {
     if part.len() - at < STRIDE || !tally.has(PATHS_SLOT) || MOST_KEYS <= tally.counts[KEY_SLOT] {
         return at;
@@ -194,8 +190,23 @@ fn pass_key(
     at + STRIDE
 }
 
-// Takes the usual commands at the offset: none, one, or a run of one kind. The offset after them. What is known of the keys is asked: it is a fact
-// about the text and about the tally too, and `Keys` has neither.
+// Takes what opens a list at the offset, where it comes for the first time, and the list's items behind it, whose byte is the next.
+#[inline(always)]
+fn pass_list(text: &BookText<'_>, part: &[u8], at: usize, tally: &mut Tally, op: u8) -> usize
+    requires at_in_bounds { (at < length part.now) × (get_or part.now at 0 ≡ op) }
+    requires alone { (width_of op ≡ 0) × (op ≡ end → ⊥) }
+    requires begun { has tally.old.counts begin ≡ 0 → ⊥ }
+    ensures { Passed part.now text.now.bytes.now tally.old.counts tally.old.last at tally.new.counts tally.new.last result }
+{
+    let next = pass_once(at, at + 1, tally, op, usize::from(op));
+    if next == at {
+        return at;
+    }
+    pass_strings(text, part, next, tally, op + 1)
+}
+
+// Takes the usual commands at the offset: none, one, or a run of one kind, with what opens its list or with its key before it. The offset after them. What is known of
+// the keys is asked: it is a fact about the text and about the tally too, and `Keys` has neither. Each list has an arm of its own: its loop is compiled there.
 pub fn pass(
     text: &BookText<'_>,
     part: &[u8],
@@ -214,12 +225,20 @@ pub fn pass(
     }
     let op = part[at];
     match op {
-        KEY => pass_key(text, part, at, tally, keys),
+        KEY => {
+            let next = pass_key(text, part, at, tally, keys);
+            if next == at {
+                return at;
+            }
+            pass_strings(text, part, next, tally, TARGET)
+        }
         FLAG => pass_flag(part, at, tally),
         TEXT_OPTION => pass_text(text, part, at, tally),
-        FILES | INCLUDE | EXCLUDE | PATHS | ROOT_DIRS => {
-            pass_once(at, at + 1, tally, op, usize::from(op))
-        }
+        FILES => pass_list(text, part, at, tally, FILES),
+        INCLUDE => pass_list(text, part, at, tally, INCLUDE),
+        EXCLUDE => pass_list(text, part, at, tally, EXCLUDE),
+        ROOT_DIRS => pass_list(text, part, at, tally, ROOT_DIRS),
+        PATHS => pass_once(at, at + 1, tally, PATHS, PATHS_SLOT),
         _ => pass_strings(text, part, at, tally, op),
     }
 }

@@ -1,21 +1,17 @@
-use mathlib.Core.List.{[]}
-use mathlib.Core.Path.{refl, ap}
+use mathlib.Core.Path.{ap}
 use native.Mathlib.Omega.{arith}
 use Prim.Native.Nat.{ℕ, ◌+◌}
 use Rattle.usual.specs.Usual.{still}
-use Rattle.usual.proofs.Passing.{once_taken, once_last, last_still}
+use Rattle.usual.proofs.Passing.{once_taken}
 use Rattle.usual.proofs.Flags.{flag_on}
 use Rattle.usual.proofs.pass_flag.Goals as goal
 
 pub returns-then-part-at-lt-FLAG_STRIDE : goal.returns-then-part-at-lt-FLAG_STRIDE
-returns-then-part-at-lt-FLAG_STRIDE c = record { passed = λ text. still; last = last_still c.args.at _ _ _ refl }
+returns-then-part-at-lt-FLAG_STRIDE c = λ text. still
 
 pub returns : goal.returns
 returns c =
     let a = c.args in
     let o = c.pass_once.ensures in
-    record {
-      passed = λ text. once_taken a.part.now text a.tally.now.counts a.tally.now.last a.at _ _ o.counts_after _ _ o.last_after _ _ o.value
-          (flag_on a.part.now a.at c.requires.at_in_bounds.1 c.if-part-at-lt-FLAG_STRIDE.false (omega arith) c.if-part-at-gt1.false text a.tally.now.counts a.tally.now.last _ (ap (λ (i : ℕ). 21 + i) c.from-k.ensures) c.requires.begun);
-      last = once_last a.part.now [] a.tally.now.counts a.tally.now.last a.at _ _ o.counts_after _ _ o.last_after _ _ o.value (omega arith);
-    }
+    λ text. once_taken a.part.now text a.tally.now.counts a.tally.now.last a.at _ _ o.counts_after _ _ o.last_after _ _ o.value
+    (flag_on a.part.now a.at c.requires.at_in_bounds.1 c.if-part-at-lt-FLAG_STRIDE.false (omega arith) c.if-part-at-gt1.false text a.tally.now.counts a.tally.now.last _ (ap (λ (i : ℕ). 21 + i) c.from-k.ensures) c.requires.begun)
