@@ -13,7 +13,7 @@ use book::{MOST_RECORDS, Seen, piece};
 use compare::{covers, digest};
 use std::marker::Model;
 use std::simd::prelude::*;
-use text::SLASH;
+use text::{LANES, SLASH};
 
 // Whether two paths meet: one is the other or its ancestor. Only the shorter can cover the longer, and of two of one length either.
 fn do_meet(a: &[u8], b: &[u8]) -> bool
@@ -122,10 +122,8 @@ const MIDDLE: u8 = b'o';
 
 const LAST: u8 = b'n';
 
-// The places that are looked at in one step, and with them the three bytes behind the last: a shorter path has no block.
-const BLOCK: usize = 16;
-
-const SHORT: usize = 19;
+// The bytes that a block reads: its places, and the three bytes behind the last. A shorter path has no block.
+const REACH: usize = LANES + 3;
 
 // Where x stands among the sixteen bytes of s from a place on, a bit for each.
 #[inline(always)]
@@ -164,11 +162,11 @@ fn has_none_in_short(s: &[u8]) -> bool
 fn has_no_file_above(s: &[u8]) -> bool
     ensures { result ≡ true → no_file_above s.now ≡ true }
 {
-    if s.len() < SHORT {
+    if s.len() < REACH {
         return has_none_in_short(s);
     }
-    let n = s.len() - SHORT;
-    for i in (0..n).step_by(BLOCK) {
+    let n = s.len() - REACH;
+    for i in (0..n).step_by(LANES) {
         if !has_none_in_block(s, i) {
             return false;
         }

@@ -14,7 +14,7 @@ const SHORT: usize = 19;
 
 // Whether w is a slash and no name stands behind it, but nothing, `.` or `..`; x, y and z are the next bytes. Each test is made, with no branch:
 // a loop over it then works on many bytes at a time.
-pub fn no_name(w: u8, x: u8, y: u8, z: u8) -> bool
+fn no_name(w: u8, x: u8, y: u8, z: u8) -> bool
     ensures { result ≡ eqb w slash && nameless x y z }
 {
     (w == SLASH) & ((x == SLASH) | (x == DOT) & ((y == SLASH) | (y == DOT) & (z == SLASH)))

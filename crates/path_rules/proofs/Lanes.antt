@@ -9,11 +9,12 @@ use lib.Dec.{eqb, leb}
 use lib.Lanes.{chunk, zip2, sel_l, mask_l, top}
 use lib.ListN.{length, get_or, replicate}
 use borrow.Author.Tests.{eqb-true}
-use Rattle.std.proofs.lemmas.List.FromFn.{fill_by_all, get_or-range_with_len}
-use Rattle.std.proofs.lemmas.Simd.{length-chunk, get_or-chunk, map-map, mask_l-mod, none_from_empty_mask}
+use Rattle.std.proofs.lemmas.List.FromFn.{get_or-range_with_len}
+use Rattle.std.proofs.lemmas.Simd.{map-map, mask_l-mod, none_from_empty_mask}
 use Rattle.std.specs.List.{range_with_len}
 use Rattle.text.specs.Bytes.{Text, bytes, slash, star, dot}
 use Rattle.text.specs.Text.{some_of}
+use Rattle.text.proofs.Lanes.{set, or_set, top_set, places, bytes_from}
 use Rattle.text.proofs.Picks.{by_test}
 use Rattle.strings.specs.Strings.{none_of}
 use Rattle.path_rules.specs.Scan.{plain_behind}
@@ -31,21 +32,6 @@ unfolding some_of
 plain true y f = rw (other true y star f refl, other true y 0x3F f refl, other true y 0x23 f refl, other true y slash f refl, other true y dot f refl) refl
 plain false y f = rw (other false y star f refl, other false y 0x3F f refl, other false y 0x23 f refl) refl
 
--- What a lane holds where a test passes, and where not
-
-abbrev set : Bool → ℕ
-set b = cond b 255 0
-
-top_set : (a : Bool) → top 7 (set a) ≡ a
-top_set true = refl
-top_set false = refl
-
-or_set : (a b : Bool) → top 7 (bit_or (set a) (set b)) ≡ a || b
-or_set true true = refl
-or_set true false = refl
-or_set false true = refl
-or_set false false = refl
-
 -- The lanes of a block: x are the bytes from its place on, and y those behind
 
 abbrev tested : List ℕ → List ℕ → List ℕ
@@ -57,15 +43,9 @@ abbrev lane : ℕ → ℕ → ℕ
 lane x y = bit_or (set (leb y star)) (set (eqb (bit_or y (cond (top 7 (set (eqb x slash))) 0x11 0)) 0x3F))
 
 lane_tells : (x y : ℕ) → top 7 (lane x y) ≡ caught (eqb x slash) y
-lane_tells x y = rw (top_set (eqb x slash)) (or_set (leb y star) (eqb (bit_or y (cond (eqb x slash) 0x11 0)) 0x3F))
-
--- the places of a block
-unfoldable places : List ℕ
-places = range_with_len 0 16
-
-bytes_from : (s : Text) (j : ℕ) → j + 16 ≤ length s → chunk j 16 s ≡ map (λ k. get_or s (j + k) 0) places
-unfolding places
-bytes_from s j h = fill_by_all (λ k. get_or s (j + k) 0) (chunk j 16 s) 16 0 (length-chunk j 16 s h) (λ k l. get_or-chunk j 16 s k 0 l)
+lane_tells x y =
+    let b = eqb x slash in
+    rw (top_set b) (ap (top 7) (or_set (leb y star) (eqb (bit_or y (cond b 0x11 0)) 0x3F)) ∙ top_set (caught b y))
 
 computed : (x y : ℕ → ℕ) → tested (map x places) (map y places) ≡ map (λ k. lane (x k) (y k)) places
 unfolding places

@@ -13,15 +13,12 @@ use components::is_absolute;
 use normal::is_normal;
 use std::simd::prelude::*;
 use strings::{is_string, lacks, lacks_brackets};
-use text::{QUESTION, SLASH, STAR};
+use text::{LANES, QUESTION, SLASH, STAR};
 
 const HASH: u8 = b'#';
 
-// The places that are looked at in one step.
-const BLOCK: usize = 16;
-
 // A block's places, and the byte before the first. A shorter path has no block.
-const REACH: usize = BLOCK + 1;
+const REACH: usize = LANES + 1;
 
 // The bits that a dot and a slash lack of a `?`.
 const LACKED: u8 = 0x11;
@@ -55,7 +52,7 @@ fn has_plain_blocks(s: &[u8]) -> bool
         if !is_block_plain(s, at) {
             return false;
         }
-        at += BLOCK;
+        at += LANES;
     }
     is_block_plain(s, n)
 }

@@ -1,57 +1,23 @@
 -- The bits of a block of sixteen places, which are looked at by the lanes of vectors. Assumes nothing.
-use mathlib.Core.Path.{◌≡◌, refl, ap, fun_ext, ◌∙◌}
+use mathlib.Core.Path.{◌≡◌, ap, fun_ext, ◌∙◌}
 use mathlib.Core.List.{List, map}
-use mathlib.Core.Bool.{Bool, true, false, not, cond, ◌&&◌, ◌||◌}
+use mathlib.Core.Bool.{Bool, not, ◌&&◌, ◌||◌}
 use Prim.Native.Nat.{ℕ, ◌+◌, ◌%◌, ◌^◌, ◌≤◌}
 use native.Mathlib.Omega.{arith}
 use Rattle.std.proofs.Common.{bit_and, bit_or}
 use Rattle.std.proofs.lemmas.Bool.Decides.{nat_tests}
-use Rattle.std.proofs.lemmas.List.FromFn.{fill_by_all}
-use Rattle.std.proofs.lemmas.Simd.{length-chunk, get_or-chunk, splat_is_map, zip2_of_maps, map-map, mask_l-mod}
-use Rattle.std.specs.List.{range_with_len}
+use Rattle.std.proofs.lemmas.Simd.{splat_is_map, zip2_of_maps, map-map, mask_l-mod}
 use lib.ListN.{length, get_or, replicate}
 use lib.Lanes.{chunk, zip2, mask_l, top}
 use lib.Dec.{eqb}
 use Rattle.text.specs.Bytes.{Text, slash, star}
+use Rattle.text.proofs.Lanes.{set, and_set, or_set, top_set, places, sixteen, bytes_from}
 use Rattle.patterns.specs.Scan.{crowded_at, crowd_bits}
-
--- what a lane holds where a test passes, and where not
-abbrev set : Bool → ℕ
-set b = cond b 255 0
-
-and_set : (a b : Bool) → bit_and (set a) (set b) ≡ set (a && b)
-and_set true true = refl
-and_set true false = refl
-and_set false true = refl
-and_set false false = refl
-
-or_set : (a b : Bool) → bit_or (set a) (set b) ≡ set (a || b)
-or_set true true = refl
-or_set true false = refl
-or_set false true = refl
-or_set false false = refl
-
-top_set : (a : Bool) → top 7 (set a) ≡ a
-top_set true = refl
-top_set false = refl
 
 -- the top bit of a lane where the tests of a place are joined: y, x and z are those for a star, a and b those for a slash
 joined_tells : (y x z a b : Bool) → top 7 (bit_and (bit_and (bit_and (set y) (bit_or (set x) (set z))) (set (not a))) (set (not b))) ≡ y && ((x || z) && not (a || b))
 joined_tells y x z a b =
     rw (or_set x z, and_set y (x || z), and_set (y && (x || z)) (not a), and_set ((y && (x || z)) && not a) (not b), top_set (((y && (x || z)) && not a) && not b)) (grind (arith, nat_tests))
-
--- the places of a block
-unfoldable places : List ℕ
-places = range_with_len 0 16
-
-sixteen : length places ≡ 16
-unfolding places
-sixteen = refl
-
--- sixteen bytes of s by their places
-bytes_from : (s : Text) (j : ℕ) → j + 16 ≤ length s → chunk j 16 s ≡ map (λ k. get_or s (j + k) 0) places
-unfolding places
-bytes_from s j h = fill_by_all (λ k. get_or s (j + k) 0) (chunk j 16 s) 16 0 (length-chunk j 16 s h) (λ k l. get_or-chunk j 16 s k 0 l)
 
 -- e and n are a lane's tests for the same byte and for another
 module _ (e n : ℕ → ℕ → ℕ) (same : (a b : ℕ) → e a b ≡ set (eqb a b)) (other : (a b : ℕ) → n a b ≡ set (not (eqb a b))) (s : Text) (h : 18 ≤ length s) where

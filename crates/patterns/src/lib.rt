@@ -10,16 +10,13 @@ ghost use Rattle.patterns.specs.Scan.{crowded, stars_apart, crowd_bits};
 use names::strip_config_dir;
 use std::simd::prelude::*;
 use strings::lacks_brackets;
-use text::{SLASH, STAR, from, upto};
+use text::{LANES, SLASH, STAR, from, upto};
 
 // Below this length a text is looked at byte by byte where most bytes need but one test.
 const SHORT: usize = 48;
 
-// The places that are looked at in one step.
-const BLOCK: usize = 16;
-
 // The bytes that a block reads: its places, and the two bytes behind the last.
-const REACH: usize = BLOCK + 2;
+const REACH: usize = LANES + 2;
 
 // Whether a star between x and z has another beside it, and no slash. The slashes have a branch of their own: one expression of the four tests
 // takes a third more instructions on a short text of stars.
@@ -99,7 +96,7 @@ fn has_blocks_apart(s: &[u8], len: usize) -> bool
     requires { (3 ≤ len) × (len + 18 ≤ length s.now) }
     ensures { result ≡ stars_apart (take len s.now) }
 {
-    for i in (0..len - 2).step_by(BLOCK) {
+    for i in (0..len - 2).step_by(LANES) {
         if !is_block_apart(&s[i..], len - i) {
             return false;
         }

@@ -13,13 +13,10 @@ use lib.Bits.{bit_or}
 use lib.Dec.{eqb, ltb, leb}
 use Rattle.text.specs.Bytes.{Text}
 use Rattle.text.specs.Text.{each_of}
+use Rattle.text.proofs.Lanes.{set, or_set, top_set}
 use Rattle.text.proofs.Picks.{by_test}
 use Rattle.strings.specs.Scan.{tame_text, seen_tame}
 use Rattle.strings.proofs.Tame.{raised, above, tame_raised}
-
--- what a lane holds where a test passes, and where not
-abbrev set : Bool → ℕ
-set b = cond b 255 0
 
 -- sixteen lanes of each kind
 abbrev pub Full : List ℕ → List ℕ → Type 0
@@ -61,16 +58,6 @@ module _ (lt : ℕ → ℕ → ℕ) (less : (a b : ℕ) → lt a b ≡ set (ltb 
     both_tame = rw (each_lesser 0xA3 xs xs' (f.0 ∙ sym g.0), each_lesser 3 ys ys' (f.1 ∙ sym g.1)) (grind (arith, nat_tests))
 
 -- The bits of the lanes that are not those of tame bytes
-
-or_set : (a b : Bool) → bit_or (set a) (set b) ≡ set (a || b)
-or_set true true = refl
-or_set true false = refl
-or_set false true = refl
-or_set false false = refl
-
-top_set : (a : Bool) → top 7 (set a) ≡ a
-top_set true = refl
-top_set false = refl
 
 no_bit : (b : Bool) (m : ℕ) → eqb (cond b 1 0 + 2 * m) 0 ≡ not b && eqb m 0
 no_bit true m = grind (arith, nat_tests)

@@ -98,7 +98,7 @@ pub fn lacks_brackets(s: &[u8]) -> bool
 
 // Whether x is one of three bytes, by tests side by side, for loops that never leave early.
 #[tactic(auto, unfolding(text::specs::Text::some_of))]
-pub fn one_of(x: u8, a: u8, b: u8, c: u8) -> bool
+fn one_of(x: u8, a: u8, b: u8, c: u8) -> bool
     ensures { result ≡ some_of (eqb x) (a ∷ b ∷ c ∷ []) }
 {
     x == a || x == b || x == c

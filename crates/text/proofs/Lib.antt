@@ -3,3 +3,4 @@ pub mod Picks
 pub mod Scans
 pub mod Parts
 pub mod Backwards
+pub mod Lanes

@@ -12,6 +12,9 @@ pub const STAR: u8 = b'*';
 
 pub const QUESTION: u8 = b'?';
 
+// The bytes that are looked at in one step, by the lanes of a vector.
+pub const LANES: usize = 16;
+
 // Whether p is a prefix of s.
 pub fn starts_with(s: &[u8], p: &[u8]) -> bool
     ensures { result ≡ prefix_of p.now s.now }
