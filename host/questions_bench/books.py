@@ -2,8 +2,7 @@
 """books.py FOLDER: the books of docs/SPEED.md's figures, each as NAME.cmd and NAME.txt, and NAME.ask with its question lines.
 typical: a base config and 19 packages that extend it; each question needs two configs of the book. limits: the same with 63 packages, as large as the limits of a book let them be.
 led, led-limits: the same two, where the base has an outDir of `${configDir}/dist`, whose brace a check that looks at the text as a whole meets.
-layered: a preset, a base that extends it and 18 packages with four references each; a question needs seven. laden: the same with 62 packages as large as those of limits. The crate takes
-about as long for a question on these two as it took when the goals of speed were set.
+layered: a preset, a base that extends it and 18 packages with four references each; a question needs seven. laden: the same with 62 packages as large as those of limits.
 workspace: 20 configs with references, as a workspace of packages has them: a base with a key for each package, a root config of references alone, and packages that refer to the four
 before them; a question needs six. wide: limits, where the config that is asked extends eight of the packages and refers to sixteen; a question needs 26.
 ladder: 60 configs, each of which extends the two before it by two entries. rungs: the same with patterns and four keys in each. hostile: 64 patterns on which the matcher makes the most
@@ -18,10 +17,10 @@ class Book:
     def lone(self, *command):
         self.commands += bytes(command)
 
-    def put(self, command, string):
+    def put(self, command, string, *ids):
         start, n = len(self.text), len(string)
         self.text += string.encode()
-        self.commands += bytes([command, start % 256, start // 256, n % 256, n // 256])
+        self.commands += bytes([command, *ids, start % 256, start // 256, n % 256, n // 256])
 
 
 def base(book, led=False):
@@ -59,9 +58,7 @@ def shared(book, count):
         book.put(12, f'packages/part-{n:02}/src/*')
     book.lone(18, 0, 0)
     for id, value in ((0, 'react-jsx'), (4, 'node'), (5, 'esnext')):
-        start, n = len(book.text), len(value)
-        book.text += value.encode()
-        book.lone(19, id, start % 256, start // 256, n % 256, n // 256)
+        book.put(19, value, id)
     book.lone(20)
 
 
@@ -120,9 +117,7 @@ def preset(book):
     for id in range(4):
         book.lone(18, id, 1)
     for id, value in ((0, 'react-jsx'), (4, 'node'), (5, 'esnext')):
-        start, n = len(book.text), len(value)
-        book.text += value.encode()
-        book.lone(19, id, start % 256, start // 256, n % 256, n // 256)
+        book.put(19, value, id)
     book.lone(20)
 
 
