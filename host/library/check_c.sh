@@ -10,6 +10,13 @@ if [ ! -f "$library" ]; then
 fi
 scratch=$(mktemp -d)
 trap 'rm -rf "$scratch"' EXIT
+# README.md says which names the library needs from outside.
+needs=$(nm -u "$library" | sed -n 's/^ *U //p' | sort -u | tr '\n' ' ')
+if [ "$needs" != "memcpy memset " ]; then
+    echo "The library needs $needs from outside, and not memcpy and memset alone." >&2
+    exit 1
+fi
+
 flags="-std=c11 -Wall -Wextra -Wpedantic -Werror"
 
 cc $flags -I "$here/include" -c -o "$scratch/header.o" "$here/tests/header.c"

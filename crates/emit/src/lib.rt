@@ -5,6 +5,16 @@ ghost use Rattle.std.specs.Prelude.{◌≡◌, [], ◌∷◌, ◌≤◌, length,
 ghost use Rattle.emit.specs.Emit.{Room};
 ghost use Rattle.emit.specs.Output.{Puts, Cut};
 
+// Writes s over bytes of its length.
+fn copy(to: &mut [u8], s: &[u8])
+    requires { length to.old ≡ length s.now }
+    ensures { to.new ≡ s.now }
+{
+    for i in 0..s.len() {
+        to[i] = s[i];
+    }
+}
+
 // The bytes that are lent, and how many were written so far, be it past their end.
 #[derive(Drop)]
 pub struct Output<'a> {
@@ -40,7 +50,7 @@ impl<'a> Output<'a> {
     {
         if self.at < self.bytes.len() {
             let n = s.len().min(self.bytes.len() - self.at);
-            self.bytes[self.at..self.at + n].copy_from_slice(&s[..n]);
+            copy(&mut self.bytes[self.at..self.at + n], &s[..n]);
         }
         self.at += s.len();
     }

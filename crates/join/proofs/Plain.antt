@@ -1,13 +1,13 @@
 -- A subpath whose pieces are told at once to be names: how that is seen byte by byte, and that its pieces joined one after the other are the subpath joined
 -- at once. Assumes nothing.
-use mathlib.Core.Path.{◌≡◌, refl, sym, ◌∙◌}
-use lib.Seq.{get_or-append_seam}
+use mathlib.Core.Path.{◌≡◌, refl, sym, ap, ◌∙◌}
+use lib.Seq.{get_or-append_seam, drop-cons}
 use Rattle.std.proofs.lemmas.Bool.{and_parts}
 use mathlib.Core.List.{List, [], ◌∷◌, ◌++◌, append_assoc, append-nil}
 use mathlib.Core.Bool.{Bool, true, false, not, ◌&&◌, ◌||◌}
-use Prim.Native.Nat.{ℕ, ◌+◌, ◌-◌}
+use Prim.Native.Nat.{ℕ, suc, ◌+◌, ◌-◌, ◌≤◌, ◌<◌}
 use native.Mathlib.Omega.{arith}
-use lib.ListN.{length, get_or, length-append}
+use lib.ListN.{length, get_or, drop, length-append, drop_of_length-le}
 use lib.Dec.{eqb}
 use borrow.Author.Tests.{eqb-true, eqb-false, not-true}
 use Rattle.text.specs.Bytes.{Text, slash, dot}
@@ -68,6 +68,40 @@ after_others (x ∷ s) =
 plain_after : (s : Text) → plain_names s ≡ opens_name (get_or s 0 slash) && names_after s
 unfolding plain_names
 plain_after s = each_first s ∙ rw (first_plain s, after_others s)
+
+-- what is seen byte by byte: what stands behind a slash, and that none ends the text
+
+pub plain_none : (s : Text) → eqb (length s) 0 ≡ true → false ≡ plain_names s
+unfolding plain_names plain_name split each_of
+plain_none [] h = refl
+plain_none (x ∷ s) h = absurd (omega (arith, eqb-true (length (x ∷ s)) 0 h))
+
+first_byte : (s : Text) → 0 < length s → get_or s 0 slash ≡ get_or s 0 0
+first_byte [] h = absurd (omega arith)
+first_byte (x ∷ s) h = refl
+
+pub plain_by : (s : Text) → 0 < length s → plain_names s ≡ opens_name (get_or s 0 0) && names_after (drop 0 s)
+plain_by s h = plain_after s ∙ rw (first_byte s h) refl
+
+after_at : (s : Text) (k : ℕ) → suc k < length s → names_after (drop k s) ≡ (not (eqb (get_or s k 0) slash) || opens_name (get_or s (suc k) 0)) && names_after (drop (suc k) s)
+unfolding names_after
+after_at s k h = rw (drop-cons s k 0 (omega arith), drop-cons s (suc k) 0 h)
+
+after_end : (s : Text) (k : ℕ) → suc k ≡ length s → names_after (drop k s) ≡ not (eqb (get_or s k 0) slash)
+unfolding names_after
+after_end s k e = rw (drop-cons s k 0 (omega arith), drop_of_length-le s {i = suc k} (omega arith)) (by_test (eqb (get_or s k 0) slash) (λ t. rw t) (λ f. rw f))
+
+module _ (s : Text) (i : ℕ) (l : 1 ≤ i) where
+  pub after_next : i < length s → names_after (drop (i - 1) s) ≡ (not (eqb (get_or s (i - 1) 0) slash) || opens_name (get_or s i 0)) && names_after (drop (i + 1 - 1) s)
+  after_next h =
+      let n : i + 1 - 1 ≡ suc (i - 1) = omega arith in
+      let m : i ≡ suc (i - 1) = omega arith in
+      after_at s (i - 1) (omega arith)
+      ∙ ap (λ (k : ℕ). (not (eqb (get_or s (i - 1) 0) slash) || opens_name (get_or s k 0)) && names_after (drop (suc (i - 1)) s)) (sym m)
+      ∙ ap (λ (k : ℕ). (not (eqb (get_or s (i - 1) 0) slash) || opens_name (get_or s i 0)) && names_after (drop k s)) (sym n)
+
+  pub after_last : i ≡ length s → names_after (drop (i - 1) s) ≡ not (eqb (get_or s (length s - 1) 0) slash)
+  after_last e = after_end s (i - 1) (omega arith) ∙ ap (λ (k : ℕ). not (eqb (get_or s (k - 1) 0) slash)) e
 
 -- One name after the other is all of it at once
 

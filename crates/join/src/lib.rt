@@ -6,7 +6,7 @@ ghost use Rattle.emit.specs.Emit.{Room};
 ghost use Rattle.emit.specs.Output.{Puts, Becomes, text_of};
 ghost use Rattle.components.specs.Components.{split};
 ghost use Rattle.join.specs.Join.{joint, push_of, join_of, step_of, walk_of, normalize_with, slash_if};
-ghost use Rattle.join.specs.Plain.{plain_name, plain_names};
+ghost use Rattle.join.specs.Plain.{opens_name, plain_names};
 
 use components::{Piece, is_absolute, piece_kind};
 use emit::Output;
@@ -80,22 +80,35 @@ fn push_pieces(path: &mut Output, sub: &[u8])
     }
 }
 
-// Whether a piece is told at once to be a name: it is not empty and does not begin with a dot.
-#[tactic(auto, unfolding(crate::specs::Plain::plain_name))]
-fn is_plain_name(piece: &[u8]) -> bool
-    ensures { result ≡ plain_name piece.now }
+// Whether a byte begins a name, where a piece begins: neither the slash behind an empty piece nor a dot.
+#[inline(always)]
+fn opens_name(x: u8) -> bool
+    ensures { result ≡ opens_name x }
 {
-    !matches!(piece, [] | [DOT, ..])
+    (x != SLASH) & (x != DOT)
 }
 
-// Whether each piece of s is told at once to be a name. (A name that begins with a dot is left to the way piece by piece.)
+// Whether each piece of s is told at once to be a name. (A name that begins with a dot is left to the way piece by piece.) The loop never leaves early, so that it works on
+// many bytes at a time.
 fn has_plain_names(s: &[u8]) -> bool
     ensures { result ≡ plain_names s.now }
 {
-    s.split(|x| *x == SLASH).all(|piece| is_plain_name(piece))
+    if s.is_empty() {
+        return false;
+    }
+    if !opens_name(s[0]) {
+        return false;
+    }
+    let mut plain = true;
+    for i in 1..s.len() {
+        plain &= (s[i - 1] != SLASH) | opens_name(s[i]);
+    }
+    plain & (s[s.len() - 1] != SLASH)
 }
 
-// `base` with `sub` joined to it piece by piece, written to output of which nothing is written.
+// `base` with `sub` joined to it piece by piece, written to output of which nothing is written. It is inlined, so that where the output is the caller's own its count of bytes
+// stands in a register.
+#[inline(always)]
 pub fn normalize(path: &mut Output, base: &[u8], sub: &[u8])
     requires empty { path.old.at ≡ 0 }
     requires room { length base.now + 1 + length sub.now ≤ length path.old.bytes.now }

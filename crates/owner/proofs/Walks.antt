@@ -1,5 +1,5 @@
 -- The owner: what claims the path among the references, and the walk over the folders. Assumes nothing.
-use mathlib.Core.Path.{◌≡◌, refl, sym, ap, ap₂, ◌∙◌}
+use mathlib.Core.Path.{◌≡◌, refl, sym, ap, ap₂, subst, ◌∙◌}
 use mathlib.Core.List.{List, [], ◌∷◌}
 use mathlib.Core.Bool.{Bool, true, false, ◌||◌, cond}
 use Rattle.std.specs.Prelude.{Option, Some, None, unwrap_or, Result, Ok, Err}
@@ -81,6 +81,17 @@ module _ (path : Text) (s : Site) (ss : List Site) (n : ℕ) (same : n ≡ s.num
         let g : claimer path ss ≡ None = sym e ∙ h in
         record { answer = λ m above. rw (owns path s ss, solution_claimer path s ss, g, ← i, f) refl }
 
+-- One record, as the config of a folder
+
+module _ (rs : List Parsed) (path : Text) (c : ℕ) where
+  pub record_refused : (r : Refusal) → load_record rs c ≡ refusal r → FolderAs rs path (Some c) (Err r)
+  unfolding owner_at
+  record_refused r l = record { answer = λ above. rw l refl }
+
+  pub record_loaded : (s : Site) (ss : List Site) (m : ℕ) (r : Option Owner) → load_record rs c ≡ given (record { site = s; references = ss; merges = m }) → OwnedAs path s ss r → FolderAs rs path (Some c) (Ok r)
+  unfolding owner_at
+  record_loaded s ss m r l w = record { answer = λ above. (rw l refl) ∙ w.answer m above }
+
 -- One folder: its config, as the code finds it
 
 module _ (book : CheckedBook) (path d : Text) (f : Option ℕ) (e : f ≡ find (push_of d tsconfig_json) (paths_in book.book.paths)) where
@@ -96,13 +107,15 @@ module _ (book : CheckedBook) (path d : Text) (f : Option ℕ) (e : f ≡ find (
     pub folder_inside : c < length book.book.paths.rows.now
     folder_inside = find_within book.book.paths.text.now book.book.paths.rows.now (push_of d tsconfig_json) c (sym h ∙ e)
 
+    -- the folder comes to what its record comes to
+    pub folder_found : (r : Result (Option Owner) Refusal) → FolderAs (records_in book.book) path (Some c) r → FolderAs (records_in book.book) path (find (push_of d tsconfig_json) (paths_of (records_in book.book))) r
+    folder_found r w = subst (λ (o : Option ℕ). FolderAs (records_in book.book) path o r) (sym h ∙ found) w
+
     pub folder_refused : (r : Refusal) → load_record (records_in book.book) c ≡ refusal r → FolderAs (records_in book.book) path (find (push_of d tsconfig_json) (paths_of (records_in book.book))) (Err r)
-    unfolding owner_at
-    folder_refused r l = record { answer = λ above. rw (← found, h, l) refl }
+    folder_refused r l = folder_found (Err r) (record_refused (records_in book.book) path c r l)
 
     pub folder_loaded : (s : Site) (ss : List Site) (m : ℕ) (r : Option Owner) → load_record (records_in book.book) c ≡ given (record { site = s; references = ss; merges = m }) → OwnedAs path s ss r → FolderAs (records_in book.book) path (find (push_of d tsconfig_json) (paths_of (records_in book.book))) (Ok r)
-    unfolding owner_at
-    folder_loaded s ss m r l w = record { answer = λ above. (rw (← found, h, l) refl) ∙ w.answer m above }
+    folder_loaded s ss m r l w = folder_found (Ok r) (record_loaded (records_in book.book) path c s ss m r l w)
 
 -- The walk
 

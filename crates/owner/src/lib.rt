@@ -1,7 +1,7 @@
 // The owner of a file: find_tsconfig_auto and resolve_tsconfig_solution.
 #![tactic(auto)]
 
-ghost use Rattle.std.specs.Prelude.{◌≡◌, None};
+ghost use Rattle.std.specs.Prelude.{◌≡◌, ◌<◌, length, Some, None};
 ghost use Rattle.names.specs.Names.{tsconfig_json};
 ghost use Rattle.join.specs.Join.{push_of};
 ghost use Rattle.book.specs.Answer.{given};
@@ -62,19 +62,32 @@ fn owned_by<'a>(config: &Config<'a>, refs: &'a [[u8; ROW]], path: &[u8]) -> Opti
     None
 }
 
-// What the config of a folder, if it has one, comes to.
-fn owned_in(checked: &CheckedBook<'_>, folder: &[u8], path: &[u8]) -> Result<Option<Owner>, Refusal>
-    ensures { FolderAs (records_in checked.now.book) path.now (find (push_of folder.now tsconfig_json) (paths_of (records_in checked.now.book))) result }
+// What the record c comes to, as the config of a folder on the walk. A function of its own: the room for what is loaded is set to zero where it is entered, and
+// most folders have no config.
+fn owned_by_record(
+    checked: &CheckedBook<'_>,
+    c: usize,
+    path: &[u8],
+) -> Result<Option<Owner>, Refusal>
+    requires { c < length checked.now.book.paths.rows.now }
+    ensures { FolderAs (records_in checked.now.book) path.now (Some c) result }
 {
-    let Some(c) = checked.book.paths.config_in(folder) else {
-        return Ok(None);
-    };
     let project = load_record(checked, c)?;
     Ok(owned_by(
         &Config::new(&checked.book, &project.row),
         &project.references[..project.count],
         path,
     ))
+}
+
+// What the config of a folder, if it has one, comes to.
+fn owned_in(checked: &CheckedBook<'_>, folder: &[u8], path: &[u8]) -> Result<Option<Owner>, Refusal>
+    ensures { FolderAs (records_in checked.now.book) path.now (find (push_of folder.now tsconfig_json) (paths_of (records_in checked.now.book))) result }
+{
+    match checked.book.paths.config_in(folder) {
+        Some(c) => owned_by_record(checked, c, path),
+        None => Ok(None),
+    }
 }
 
 // The path as a folder and each folder above it in turn, until one owns the path.

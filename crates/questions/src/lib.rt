@@ -43,8 +43,7 @@ fn open_book<'a>(
 fn is_asked(path: &[u8], directory: Option<&[u8]>, specifier: &[u8]) -> bool
     ensures { result ≡ asked_for path.now (option_copied directory.entry) specifier.now }
 {
-    let from_there = directory.is_none_or(|d| is_asked_path(d));
-    is_asked_path(path) && from_there && is_string(specifier)
+    is_asked_path(path) && directory.is_none_or(|d| is_asked_path(d)) && is_string(specifier)
 }
 
 // Loads the record that the path means, where the question may be asked: `ok` is what was told of the question, which is refused after the book.

@@ -121,6 +121,7 @@ impl<'a> PathTable<'a> {
     }
 
     // The first row from i on that may begin with p. Only the byte k and the one before it are looked at, and none where k is the slash.
+    #[inline(always)]
     fn next_joined(&self, i: usize, p: &Joined<'_>, k: usize) -> usize
         requires { i ≤ length self.now.rows.now }
         ensures { Passed self.now.text.now self.now.rows.now (path_of p.now) i result }

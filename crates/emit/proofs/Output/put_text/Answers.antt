@@ -12,7 +12,7 @@ returns c =
     let put = λ (u : Output). Puts s o (record { bytes = u.bytes; at = u.at + length s }) in
     elim c.if-self.branch [
       | then-self w ↦
-          subst put (sym w.self-is) (record { same = refl; wrote = record { text = copied_front o.bytes.now s o.at _ w.if-self.true w.min-n.ensures _ _ (omega arith) w.copy_from_slice.ensures.after; next = refl } })
+          subst put (sym w.self-is) (record { same = refl; wrote = record { text = copied_front o.bytes.now s o.at _ w.if-self.true w.min-n.ensures _ _ (omega arith) w.copy.ensures; next = refl } })
       | else-self w ↦
           subst put (sym w.self-is) (record { same = refl; wrote = emits_out s o.bytes.now o.at w.if-self.false })
     ]
