@@ -23,13 +23,16 @@ const MARK: u8 = b'!';
 // How many fields a line has at most.
 const FIELDS: usize = 7;
 
+// How many a line of glob.txt has.
+const GLOB_FIELDS: usize = 3;
+
 // How long a path may be that is joined.
 const MOST: usize = 512;
 
-// The fields of a line, with tabs between: empty where there are fewer.
-fn fields(line: &[u8]) -> [&[u8]; FIELDS] {
+// The fields of a line, with tabs between: empty where there are fewer than the count, and the last of so many has all that follows.
+fn fields(line: &[u8], count: usize) -> [&[u8]; FIELDS] {
     let mut fields = [upto(line, 0); FIELDS];
-    for (field, part) in fields.iter_mut().zip(line.split(|x| *x == TAB)) {
+    for (field, part) in fields.iter_mut().zip(line.splitn(count, |x| *x == TAB)) {
         *field = part;
     }
     fields
@@ -63,7 +66,7 @@ fn same_components(s: &[u8], field: &[u8]) -> bool {
 
 // A line of one.txt: text, parent, components, file name, extension, normal, inside node_modules.
 fn one_agrees(line: &[u8]) -> bool {
-    let [s, parent, components, name, extension, is_normal, is_inside] = fields(line);
+    let [s, parent, components, name, extension, is_normal, is_inside] = fields(line, FIELDS);
     ends::parent(s) == parent
         && same_components(s, components)
         && agrees(file_names::file_name(s), name)
@@ -94,7 +97,7 @@ fn normalize_agrees(a: &[u8], b: &[u8], field: &[u8]) -> bool
 
 // A line of two.txt: a, b, join, normalize_with, equal, starts_with, strip_prefix.
 fn two_agrees(line: &[u8]) -> bool {
-    let [a, b, joined, normalized, is_same, is_under, rest] = fields(line);
+    let [a, b, joined, normalized, is_same, is_under, rest] = fields(line, FIELDS);
     if MOST < a.len() || MOST < b.len() {
         return false;
     }
@@ -107,7 +110,7 @@ fn two_agrees(line: &[u8]) -> bool {
 
 // A line of glob.txt: pattern, path, whether it matches.
 fn glob_agrees(line: &[u8]) -> bool {
-    let [pattern, path, is_match, ..] = fields(line);
+    let [pattern, path, is_match, ..] = fields(line, GLOB_FIELDS);
     matcher::matches(pattern, path) == is_yes(is_match)
 }
 
