@@ -60,7 +60,7 @@ listed (suc k) (x ∷ y ∷ s) = take (x + y * 256) s ++ (10 ∷ listed k (drop 
 
 abbrev pub printed : Question → Reply → Text
 printed (B p) r = two "built" r.first r.second ++ r.bytes
-printed (O p) r = cond (eqb r.first 65535) (bytes "owner None\n") (two "owner" r.first r.second)
+printed (O p) r = cond (eqb r.first 65535) (bytes "owner none\n") (two "owner" r.first r.second)
 printed (C p s) r = heading "candidates" r.first ++ (10 ∷ listed r.first r.bytes)
 printed (T p d s) r = heading "tries" r.first ++ (10 ∷ listed r.first r.bytes)
 
@@ -143,4 +143,6 @@ table =
     -- the worked example
     ∷ (prints stations (B "/t/st/tsconfig.json" ∷ O "/t/st/src/a.ts" ∷ C "/t/st/tsconfig.json" "@f/band" ∷ [])
     gets "built 1 1\ninclude=/t/st/src\nbase=/t\nkey=@f/*\ntarget=/t/filt/*\nowner 1 1\ncandidates 1\n/t/filt/band\n" ∷ [])
+    -- no owner
+    ∷ (prints stations (O "/t/a.ts" ∷ []) gets "owner none\n" ∷ [])
     ∷ []
