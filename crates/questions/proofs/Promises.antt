@@ -2,7 +2,7 @@
 use mathlib.Core.Path.{◌≡◌, refl, sym, ap, subst, ◌∙◌}
 use mathlib.Core.List.{List, [], ◌∷◌, ◌++◌, map, reverse, append_assoc}
 use mathlib.Core.Bool.{Bool, true, false, ◌||◌}
-use Rattle.std.specs.Prelude.{Option, Some, None}
+use Rattle.std.specs.Prelude.{Option, Some, None, Ok}
 use Prim.Native.Nat.{ℕ, zero, suc, ◌+◌, ◌-◌, ◌%◌, ◌/◌, ◌<◌, ◌≤◌}
 use native.Mathlib.Omega.{arith}
 use lib.ListN.{length, take, drop, length-append, length-map, length-reverse}
@@ -32,18 +32,19 @@ use Rattle.tsconfig_resolver.proofs.Inside.{Fits, find_below, locate_below}
 use Rattle.rows.specs.Records.{records_of, parsed_of}
 use Rattle.rows.proofs.Books.{accepted_small}
 use Rattle.tsconfig.specs.Laid.{laid}
-use Rattle.replies.specs.Replies.{Outcome, Reply, fit, listed, returned, output, numbers_of, Told}
+use Rattle.replies.specs.Replies.{Outcome, Reply, fit, listed, returned, output, numbers_of, numbers_by, AnsweredAs, Told}
 use Rattle.build_reply.specs.Reply.{build_reply}
 use Rattle.paths_reply.specs.Paths.{paths_by}
 use Rattle.questions.specs.Questions.{asked, book, build, owner, owner_reply, tsconfig_build, tsconfig_owner, tsconfig_candidates, tsconfig_tries}
 use Rattle.questions.specs.Replies.{asked_for, tsconfig_paths}
 use Rattle.questions.specs.Numbered.{Numbered}
 use Rattle.questions.specs.Demand3.{flat_site, Inherits}
-use Rattle.questions.specs.Promises.{Loads, flat_listing, flat_after, BuildInherits, PathsInherit, CandidatesInherit, TriesInherit, OneStory, OwnerInherits, Passed}
+use Rattle.questions.specs.Promises.{Loads, flat_listing, flat_after, BuildInherits, PathsInherit, CandidatesInherit, TriesInherit, OneStory, OwnerInherits, Passed, c_numbers}
+use Rattle.replies.specs.declared.Given.{Given}
 use Rattle.replies.specs.declared.Numbers.{Numbers}
 use Rattle.questions.proofs.Demand3.{refused_given, given_same, then_given, inherits}
 use Rattle.questions.proofs.Numbered.{build_numbered, owner_numbered, candidates_numbered, tries_numbered}
-use Rattle.replies.proofs.Replies.{listed_reply}
+use Rattle.replies.proofs.Replies.{listed_reply, told_by}
 use Rattle.questions.proofs.Replies.{paths_asked}
 
 none_some : {A : Type 0} (o : A) → None ≡ Some o → ⊥
@@ -372,3 +373,42 @@ module _ (commands text path : Text) where
       let e₂ : owner (records_of commands text) path ≡ given a = subst (λ (x : List Parsed). owner x path ≡ given a) q e₁ in
       let (w, e₃, e₄) = then_given (owner_of (records_of commands text) path) owner_reply (asked_given (asked_path path) (owner_of (records_of commands text) path >>= owner_reply) a e₂) in
       none_found r a w e₃ e₄ (same o a r e t) h f
+
+-- The same of what the questions give: each theorem above, of an answer's numbers
+
+module _ (commands text : Text) where
+  told_c : (o : Outcome) (g : Given) (old new : Text) → AnsweredAs o (Ok g) old new → Told o (c_numbers g) old new
+  told_c o g old new t = told_by o (Ok g) old new (c_numbers g) t refl
+
+  -- what build promises
+  pub build_given :
+      (path : Text) (g : Given) (old new : Text) → AnsweredAs (tsconfig_build commands text path (length old)) (Ok g) old new → BuildInherits (records_of commands text) path (c_numbers g) old new
+  build_given path g old new t = build_inherits commands text path (c_numbers g) old new (told_c _ g old new t) refl
+
+  -- what candidates and tries promise
+  pub candidates_given :
+      (path s : Text) (g : Given) (old new : Text) → AnsweredAs (tsconfig_candidates commands text path s (length old)) (Ok g) old new → CandidatesInherit (records_of commands text) path s (c_numbers g) old new
+  candidates_given path s g old new t = candidates_inherit commands text path s (c_numbers g) old new (told_c _ g old new t) refl
+
+  pub tries_given :
+      (path s directory : Text) (g : Given) (old new : Text) → AnsweredAs (tsconfig_tries commands text path directory s (length old)) (Ok g) old new →
+      TriesInherit (records_of commands text) path directory s (c_numbers g) old new
+  tries_given path s directory g old new t = tries_inherit commands text path s (c_numbers g) old new directory (told_c _ g old new t) refl
+
+  pub one_story_given :
+      (path directory s : Text) → inside_node_modules directory ≡ false → starts dot s ≡ false →
+      (g : Given) (before new : Text) → AnsweredAs (tsconfig_candidates commands text path s (length before)) (Ok g) before new →
+      (h : Given) (old tried : Text) → AnsweredAs (tsconfig_tries commands text path directory s (length old)) (Ok h) old tried →
+      OneStory (records_of commands text) path s (c_numbers g) new (c_numbers h) old tried
+  one_story_given path directory s outside plain g before new t h old tried u =
+      one_story commands text path directory s outside plain (c_numbers g) before new (told_c _ g before new t) refl (c_numbers h) old tried (told_c _ h old tried u) refl
+
+  -- what owner promises, where it finds one and where it does not
+  pub owner_given :
+      (path : Text) (g : Given) → numbers_by (Ok g) ≡ returned (tsconfig_owner commands text path) → (g.first ≡ 65535 → ⊥) → OwnerInherits (records_of commands text) path g.first g.second
+  owner_given path g t some-found = owner_inherits commands text path (c_numbers g) t refl some-found
+
+  pub owner_none_given :
+      (path : Text) (g : Given) → numbers_by (Ok g) ≡ returned (tsconfig_owner commands text path) → g.first ≡ 65535 → inside_node_modules path ≡ false →
+      All (Passed (records_of commands text) path) (folders (length (components path) - 1) path)
+  owner_none_given path g t none outside = owner_none commands text path (c_numbers g) t refl none outside

@@ -1,5 +1,5 @@
--- Demand 3 over what the entries promise: from the numbers that a C function returns and the output that it leaves to the line rule, for every book
--- and every question that is not refused. What is quoted are demand 3's sentences.
+-- Demand 3 over what the entries promise: from the numbers that a C function returns, or those that a question gives, and the output that it leaves to the
+-- line rule, for every book and every question that is not refused. What is quoted are demand 3's sentences.
 use Rattle.std.specs.Prelude.{◌≡◌, List, ◌++◌, true, false, ℕ, ◌+◌, ◌<◌, length, take, drop}
 use Rattle.std.specs.Prelude.{Some}
 use Rattle.text.specs.Bytes.{Text}
@@ -17,7 +17,12 @@ use Rattle.tsconfig_resolver.specs.Find.{record_at, paths_of, seen}
 use Rattle.tsconfig_resolver.specs.Project.{Project, load_record}
 use Rattle.tsconfig.specs.Laid.{laid}
 use Rattle.questions.specs.Demand3.{flat_site, Inherits}
+use Rattle.replies.specs.declared.Given.{Given}
 use Rattle.replies.specs.declared.Numbers.{Numbers}
+
+-- what a question gives, as C is handed it
+abbrev pub c_numbers : Given → Numbers
+c_numbers g = record { number = 0; place = 0; first = g.first; second = g.second; bytes = g.bytes }
 
 module _ (rs : List Parsed) where
   -- the record c loads without refusal, and what it gives is the flat config's
