@@ -81,7 +81,7 @@ module _ (rs : List Parsed) (t : List (Option (List ℕ))) (row : List ℕ) (c :
   put_other : (i : ℕ) → (i ≡ c → ⊥) → held (set t c (Some row)) i ≡ held t i
   put_other i n = get_or-set_other t c i (Some row) None n
 
-  state_put : (m : ℕ) → state_of rs (set t c (Some row)) m ≡ put c (config_of rs row) (state_of rs t m)
+  pub state_put : (m : ℕ) → state_of rs (set t c (Some row)) m ≡ put c (config_of rs row) (state_of rs t m)
   unfolding state_of
   state_put m = λ i. record { table = λ k. go k (eqb k c) refl i; merges = m }
     where
@@ -89,7 +89,7 @@ module _ (rs : List Parsed) (t : List (Option (List ℕ))) (row : List ℕ) (c :
       go k true e = rw (eqb-true k c e, put_same) refl
       go k false e = rw (put_other k (eqb-false k c e)) refl
 
-  table_put : Row rs row → row_number row ≡ c → Table rs t → Table rs (set t c (Some row))
+  pub table_put : Row rs row → row_number row ≡ c → Table rs t → Table rs (set t c (Some row))
   table_put r o h = record {
     rows = λ i x k. by_test (eqb i c) (λ e. let z : row ≡ x = same_row i x k e in subst (Row rs) z r) (λ f. h.rows i x (sym (put_other i (eqb-false i c f)) ∙ k));
     own = λ i x k. by_test (eqb i c) (λ e. let z : row ≡ x = same_row i x k e in ap row_number (sym z) ∙ o ∙ sym (eqb-true i c e)) (λ f. h.own i x (sym (put_other i (eqb-false i c f)) ∙ k));
@@ -108,7 +108,7 @@ module _ (rs : List Parsed) (t : List (Option (List ℕ))) (row : List ℕ) (c :
       same i true e = rw (eqb-true i c e, put_same, get_or-set_same on c true false l) (and-false (not (get_or on c false)))
       same i false e = rw (get_or-set_other on c i true false (eqb-false i c e), put_other i (eqb-false i c e)) refl
 
-state_counted : (rs : List Parsed) (table : List (Option (List ℕ))) (m : ℕ) → state_of rs table (m + 1) ≡ counted (state_of rs table m)
+pub state_counted : (rs : List Parsed) (table : List (Option (List ℕ))) (m : ℕ) → state_of rs table (m + 1) ≡ counted (state_of rs table m)
 unfolding state_of
 state_counted rs table m = λ i. record { table = λ k. option_map (config_of rs) (held table k); merges = add-one m i }
 
@@ -133,7 +133,7 @@ last_split : (es : List Entry) (j : ℕ) (d : Entry) → length es ≡ suc j →
 last_split es j d h = sym (take_all (suc j) es (omega (arith, h))) ∙ take-suc es j d (omega (arith, h))
 
 -- the last of the entries is the first that the walk meets
-last_first : (es : List Entry) (j : ℕ) (d : Entry) → length es ≡ suc j → reverse (entries_of es) ≡ entry_of (get_or es j d) ∷ reverse (entries_of (take j es))
+pub last_first : (es : List Entry) (j : ℕ) (d : Entry) → length es ≡ suc j → reverse (entries_of es) ≡ entry_of (get_or es j d) ∷ reverse (entries_of (take j es))
 last_first es j d h =
     ap (λ (l : List Entry). reverse (entries_of l)) (last_split es j d h)
     ∙ ap reverse (map-append entry_of (take j es) (get_or es j d ∷ []))
@@ -237,7 +237,7 @@ module _ (was : Loads) (on : List Bool) (c : ℕ) (inside : c < length (records_
             ∙ ap (λ (z : Gives). z >>= λ v. done v.config (put c v.config v.state)) (subst (ToldAs was (set on c true) c (length es + reach (set on c true) was) (walks rs (set on c true) c es (config_of rs o.row) (state was)) now) f q.told)
 
         module _ (row : List ℕ) (f : w ≡ Ok row) where
-          walked : Went was (set on c true) c (length es + reach (set on c true) was) (walks rs (set on c true) c es (config_of rs o.row) (state was)) now row
+          pub walked : Went was (set on c true) c (length es + reach (set on c true) was) (walks rs (set on c true) c es (config_of rs o.row) (state was)) now row
           walked = subst (ToldAs was (set on c true) c (length es + reach (set on c true) was) (walks rs (set on c true) c es (config_of rs o.row) (state was)) now) f q.told
 
           pub load_done : length now.table ≡ 64 → Went was on c (reach on was) (load (seen rs) (on_of on) c (state was)) (record { checked = now.checked; table = set now.table c (Some row); merges = now.merges }) row

@@ -1,11 +1,11 @@
 // The load of a config with its extends.
 #![tactic(auto)]
 
-ghost use Rattle.std.specs.Prelude.{◌+◌, length};
+ghost use Rattle.std.specs.Prelude.{◌≡◌, ◌+◌, length, Some, IfOk};
 ghost use Rattle.tsconfig_resolver.specs.Load.{load as load_of, recall};
 ghost use Rattle.tsconfig_resolver.specs.Find.{seen};
 ghost use Rattle.rows.specs.Rows.{config_of};
-ghost use Rattle.load.specs.Loads.{on_of, records_of, state, reach, ParentAs, Tells, LoadPre, WalkPre, BringPre, walks as walks_of};
+ghost use Rattle.load.specs.Loads.{on_of, held, records_of, state, reach, ParentAs, Tells, LoadPre, WalkPre, BringPre, walks as walks_of};
 
 use book::{Fault, MOST_RECORDS, Refusal};
 use entries::{Entry, Opened, open_record};
@@ -41,7 +41,8 @@ impl Loads<'_> {
     #[cycle(bring_load_walk)]
     pub fn load(&mut self, on: [bool; MOST_RECORDS], c: usize) -> Result<[u8; ROW], Refusal>
         requires { LoadPre self.old on c }
-        ensures { Tells self.old on c (reach on self.old) (load_of (seen (records_of self.old)) (on_of on) c (state self.old)) self.new result }
+        ensures told { Tells self.old on c (reach on self.old) (load_of (seen (records_of self.old)) (on_of on) c (state self.old)) self.new result }
+        ensures put { IfOk result (λ row. held self.new.table c ≡ Some row) }
     {
         if on[c] {
             return Err(Refusal {

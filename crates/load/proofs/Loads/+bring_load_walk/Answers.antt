@@ -8,13 +8,13 @@ pub bring-returns-in-Some : goal.bring-returns-in-Some
 bring-returns-in-Some t c = let a = c.args in bring_held a.self.now a.on a.v c.in-Some.row c.in-Some.is c.requires.table
 
 pub bring-returns-in-None : goal.bring-returns-in-None
-bring-returns-in-None t c = let a = c.args in bring_loaded a.self.now a.on a.v c.in-None.is _ _ _ c.load.ensures
+bring-returns-in-None t c = let a = c.args in bring_loaded a.self.now a.on a.v c.in-None.is _ _ _ c.load.ensures.told
 
-pub load-returns-then-on-c : goal.load-returns-then-on-c
-load-returns-then-on-c t c = let a = c.args in record { told = load_on a.self.now a.on a.c (inside_records a.self.now.checked.now a.c c.requires.inside) c.if-on-c.true }
+pub load-returns-then-on-c-clause-told : goal.load-returns-then-on-c-clause-told
+load-returns-then-on-c-clause-told t c = let a = c.args in record { told = load_on a.self.now a.on a.c (inside_records a.self.now.checked.now a.c c.requires.inside) c.if-on-c.true }
 
-pub load-returns-in_err-entries : goal.load-returns-in_err-entries
-load-returns-in_err-entries t c =
+pub load-returns-in_err-entries-clause-told : goal.load-returns-in_err-entries-clause-told
+load-returns-in_err-entries-clause-told t c =
     let a = c.args in
     let p = err_from_is_err_and c.from_residual.result c.from_residual.ensures.1 in
     rw (p.1, p.2) (record { told = load_unread a.self.now a.on a.c (inside_records a.self.now.checked.now a.c c.requires.inside) c.if-on-c.false _ c.in_err-entries.ensures.err })
@@ -27,8 +27,8 @@ load-walk-requires t c =
       walk_start a.self.now a.on a.c (omega arith) c.requires c.if-on-c.false _ c.in_ok-entries.ensures.ok _ c.as_slice.ensures,
     )
 
-pub load-returns-in_err-merged : goal.load-returns-in_err-merged
-load-returns-in_err-merged t c =
+pub load-returns-in_err-merged-clause-told : goal.load-returns-in_err-merged-clause-told
+load-returns-in_err-merged-clause-told t c =
     let a = c.args in
     let few = few_records a.self.now.checked.now in
     let p = err_from_is_err_and c.from_residual-in_err-merged.result c.from_residual-in_err-merged.ensures.1 in
@@ -36,8 +36,8 @@ load-returns-in_err-merged t c =
       told = load_refused a.self.now a.on a.c (inside_records a.self.now.checked.now a.c c.requires.inside) c.if-on-c.false _ c.in_ok-entries.ensures.ok (omega arith) (omega (arith, few, c.requires.inside)) _ c.as_slice.ensures c.requires.fresh _ _ c.walk.ensures _ c.in_err-merged.was;
     })
 
-pub load-returns : goal.load-returns
-load-returns t c =
+pub load-returns-clause-told : goal.load-returns-clause-told
+load-returns-clause-told t c =
     let a = c.args in
     let few = few_records a.self.now.checked.now in
     record {
