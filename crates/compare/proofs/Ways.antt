@@ -42,7 +42,7 @@ module _ (p q : Text) where
   unfolding covers
   over_short h = join_short p q h
 
-  over_same : length q ≡ length p → covers p q ≡ prefix_of p q
+  pub over_same : length q ≡ length p → covers p q ≡ prefix_of p q
   unfolding covers
   over_same h = join_same p q h
 

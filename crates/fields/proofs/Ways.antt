@@ -27,11 +27,11 @@ listed_some name text f [] e = absurd (cc)
 listed_some name text f (c ∷ l) e = refl
 
 module _ (name text : Text) (f : Text → Text) (op : ℕ) (r : List Cmd) where
-  items_none : single text op r ≡ None → items name (map f (strings text op r)) ≡ ended name
+  pub items_none : single text op r ≡ None → items name (map f (strings text op r)) ≡ ended name
   unfolding single strings
   items_none e = listed_none name text f (only (is op) r) e
 
-  items_some : {v : Text} → single text op r ≡ Some v → items name (map f (strings text op r)) ≡ rows name (map f (strings text op r))
+  pub items_some : {v : Text} → single text op r ≡ Some v → items name (map f (strings text op r)) ≡ rows name (map f (strings text op r))
   unfolding single strings
   items_some e = listed_some name text f (only (is op) r) e
 
@@ -43,11 +43,11 @@ keys_left text f [] e = refl
 keys_left text f (c ∷ r) e = by_test (is key c) (λ t. absurd (cc)) (λ n. rw n (keys_left text f r (rw n at e)))
 
 module _ (text : Text) (f : Key → Key) (r : List Cmd) where
-  mapping_none : single text key r ≡ None → mapping (map f (keys_of text r)) ≡ ended (bytes "paths")
+  pub mapping_none : single text key r ≡ None → mapping (map f (keys_of text r)) ≡ ended (bytes "paths")
   unfolding mapping
   mapping_none e = rw (keys_left text f r e) refl
 
-mapping_some : (text : Text) (f : Key → Key) (r : List Cmd) {v : Text} → single text key r ≡ Some v → mapping (map f (keys_of text r)) ≡ key_rows (map f (keys_of text r))
+pub mapping_some : (text : Text) (f : Key → Key) (r : List Cmd) {v : Text} → single text key r ≡ Some v → mapping (map f (keys_of text r)) ≡ key_rows (map f (keys_of text r))
 unfolding single only first_of keys_of mapping
 mapping_some text f [] e = absurd (cc)
 mapping_some text f (c ∷ r) {v} e = by_test (is key c) (λ t. rw t refl) (λ n. rw n (mapping_some text f r (rw n at e)))

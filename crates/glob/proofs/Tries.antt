@@ -62,7 +62,7 @@ module _ (Q : Text → Bool) (s : Text) where
   pub skip_start : Skips Q s 0
   skip_start = record { room = omega arith; whole = inside_weaker (after no_slash Q) s }
 
-  skip_on : (j : ℕ) → Skips Q s j → j < length s → (get_or s j 0 ≡ slash → ⊥) → NoBegin Q (get_or s j 0) → Skips Q s (suc j)
+  pub skip_on : (j : ℕ) → Skips Q s j → j < length s → (get_or s j 0 ≡ slash → ⊥) → NoBegin Q (get_or s j 0) → Skips Q s (suc j)
   skip_on j a h g m =
       record {
         room = omega arith;

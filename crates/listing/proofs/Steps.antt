@@ -112,7 +112,7 @@ module _ (c : Config) (o : Output) where
     abbrev from_paths : Text
     from_paths = if_named mapping (s.named config.paths) ++ from_references
 
-    whole_room : Room o.at whole
+    pub whole_room : Room o.at whole
     whole_room = listing_room b r c.named dir c.place c.short e value short own t o.at start
 
     pub lists_turn : Turn whole o (lists_part s) (base_part references s) o

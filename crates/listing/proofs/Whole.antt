@@ -244,7 +244,7 @@ module _ (b : Book) (row : List ℕ) (w : Row (records_in b) row) where
         let s = is_there b row w k l in
         omega (arith, ap length (is x s), small x (fits b row k x s))
 
-    lists_size : length (lists_part (config_in b row)) ≤ 600000000
+    pub lists_size : length (lists_part (config_in b row)) ≤ 600000000
     unfolding lists_part
     lists_size =
         let a = if_named (items (bytes "files")) ((config_in b row).named config.files) in
@@ -284,7 +284,7 @@ module _ (b : Book) (row : List ℕ) (w : Row (records_in b) row) where
       abbrev references : List Text
       references = strings r.text.now command.reference (read r.commands.now r.at)
 
-      base_size : length (base_part references (config_in b row)) ≤ 4600000000000
+      pub base_size : length (base_part references (config_in b row)) ≤ 4600000000000
       unfolding base_part
       base_size =
           let a = listings.row (bytes "base") (config_in b row).base in

@@ -112,7 +112,7 @@ abbrev pub behind : Text → ℕ → Bool
 behind s i = names_behind (drop (i - 3) s)
 
 -- at a byte that three follow
-names_at : (s : Text) (j : ℕ) → j + 3 < length s → names_behind (drop j s) ≡ not (eqb (get_or s j 0) slash && nameless (get_or s (j + 1) 0) (get_or s (j + 2) 0) (get_or s (j + 3) 0)) && names_behind (drop (j + 1) s)
+pub names_at : (s : Text) (j : ℕ) → j + 3 < length s → names_behind (drop j s) ≡ not (eqb (get_or s j 0) slash && nameless (get_or s (j + 1) 0) (get_or s (j + 2) 0) (get_or s (j + 3) 0)) && names_behind (drop (j + 1) s)
 unfolding names_behind
 names_at s j h =
     let a : j + 2 ≡ suc (suc j) = omega arith in

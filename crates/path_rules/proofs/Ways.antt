@@ -19,7 +19,7 @@ use Rattle.path_rules.proofs.Places.{all_plain, plain_free}
 
 -- Barred bytes: those of a record's path are those of a pattern and three more, and a byte named again bars nothing more
 
-swap : (a b c d : Bool) → (a && b) && (c && d) ≡ (a && c) && (b && d)
+pub swap : (a b c d : Bool) → (a && b) && (c && d) ≡ (a && c) && (b && d)
 swap a b c d = grind (arith, nat_tests)
 
 each_both : (P Q B : ℕ → Bool) (s : Text) → ((x : ℕ) → B x ≡ P x && Q x) → each_of B s ≡ each_of P s && each_of Q s

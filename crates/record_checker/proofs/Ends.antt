@@ -141,7 +141,7 @@ module _ (part : Text) (base : ℕ) (text : Text) (rows : List Seen) {ns : List 
 
   -- any other command
   module _ (no_key : c.op ≡ key → ⊥) where
-    clear_here : fault_of text (has ns) last (length rows) (texts text ks) (texts text rows) c ≡ None
+    pub clear_here : fault_of text (has ns) last (length rows) (texts text ks) (texts text rows) c ≡ None
     clear_here = clear_on part base text rows s is e d no_key
 
     pub looked_slot : (k < 39) × (has ns k < 255)

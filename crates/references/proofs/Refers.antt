@@ -195,7 +195,7 @@ abbrev pub unloaded : List (Option (List ℕ))
 unloaded = replicate 64 None
 
 module _ (rs : List Parsed) where
-  blank_table : Table rs unloaded
+  pub blank_table : Table rs unloaded
   blank_table = record { rows = λ i x h. no i x h; own = λ i x h. no i x h }
     where
       no : {X : Type 0} (i : ℕ) (x : List ℕ) → held unloaded i ≡ Some x → X

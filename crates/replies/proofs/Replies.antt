@@ -34,7 +34,7 @@ written_first x old o u e z p = rw (← e, ← z) p.wrote
 -- What the scratch holds of a text, where it is long enough, is the text
 
 module _ (x in-scratch scratch : Text) (k : ℕ) (made : Emits x in-scratch 0 scratch k) (h : k ≤ length scratch) where
-  scratch_holds : take k scratch ≡ x
+  pub scratch_holds : take k scratch ≡ x
   scratch_holds = (emits_holds x in-scratch scratch 0 k (omega (arith, h, made.next, emits_length x in-scratch 0 scratch k made)) made).bytes
 
   pub scratch_copied : (t old new : Text) (n : ℕ) → t ≡ take k scratch → Emits t old 0 new n → Emits x old 0 new n

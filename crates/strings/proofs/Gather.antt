@@ -1,12 +1,12 @@
 -- Loops that gather their verdict and never leave early: one law for all of them, over the rule that the loop tests. Assumes nothing.
 use mathlib.Core.Path.{◌≡◌, refl, sym, ◌∙◌}
 use mathlib.Core.List.{List, [], ◌∷◌}
-use mathlib.Core.Bool.{Bool, true, false, not, ◌&&◌, and-true, and_assoc, not-not}
+use mathlib.Core.Bool.{Bool, true, false, not, ◌&&◌, ◌||◌, and-true, and_assoc, not-not}
 use Prim.Native.Nat.{ℕ}
 use native.Mathlib.Omega.{arith}
 use lib.Dec.{eqb}
 use Rattle.std.specs.List.{fold}
-use lib.Bits.{bit_or, or_add_and, and_le_r, or_zero_l}
+use lib.Bits.{bit_or, bit_and, bit_xor, or_add_and, and_le_r, or_zero_l}
 use borrow.Author.Tests.{ne_eqb, eqb-true, eqb-false}
 use Rattle.text.specs.Bytes.{Text}
 use Rattle.text.specs.Text.{each_of}
@@ -25,6 +25,24 @@ or_none a b =
 pub flag_none : (t : Bool) → eqb (flag t) 0 ≡ not t
 flag_none true = refl
 flag_none false = refl
+
+-- verdicts as bytes joined as verdicts
+
+pub or_flag : (t u : Bool) → bit_or (flag t) (flag u) ≡ flag (t || u)
+or_flag true true = refl
+or_flag true false = refl
+or_flag false true = refl
+or_flag false false = refl
+
+pub and_flag : (t u : Bool) → bit_and (flag t) (flag u) ≡ flag (t && u)
+and_flag true true = refl
+and_flag true false = refl
+and_flag false true = refl
+and_flag false false = refl
+
+pub not_flag : (t : Bool) → bit_xor 1 (flag t) ≡ flag (not t)
+not_flag true = refl
+not_flag false = refl
 
 -- A rule of each byte
 

@@ -33,7 +33,7 @@ plain : (s : Text) → own_rule key s ≡ true
 unfolding own_rule
 plain s = refl
 
-held_good : (text : Text) (c : Cmd) → c.op ≡ key → (r : Bool) → r ≡ (leb (c.start + c.len) (length text) && string_rule (text_of text c)) → r ≡ good_string text c
+pub held_good : (text : Text) (c : Cmd) → c.op ≡ key → (r : Bool) → r ≡ (leb (c.start + c.len) (length text) && string_rule (text_of text c)) → r ≡ good_string text c
 unfolding good_string
 held_good text c k r e =
     e ∙ ap (λ (b : Bool). leb (c.start + c.len) (length text) && b)

@@ -3,7 +3,7 @@ use mathlib.Core.Path.{◌≡◌, refl, sym, ◌∙◌}
 use Rattle.std.proofs.lemmas.Bool.{and_parts, or_parts}
 use mathlib.Core.List.{List, [], ◌∷◌}
 use mathlib.Core.Bool.{Bool, true, not, ◌&&◌, ◌||◌, or-true}
-use Prim.Native.Nat.{ℕ, ◌-◌}
+use Prim.Native.Nat.{ℕ, ◌-◌, ◌≤◌, ◌<◌}
 use native.Mathlib.Omega.{arith}
 use lib.ListN.{get_or}
 use lib.Dec.{T, eqb}
@@ -12,10 +12,14 @@ use mathlib.Core.Logic.{inl, inr}
 use borrow.Author.Tests.{ne_eqb, eqb-true, eqb-false, not-true}
 use Rattle.text.proofs.Picks.{by_test}
 use Rattle.book.specs.Command.{begin, key, target, width_of}
-use Rattle.book.specs.Rules.{openers}
+use Rattle.book.specs.Rules.{openers, limits}
 use Rattle.book.specs.State.{has}
 use Rattle.book.proofs.Table.{every, at_keys}
+use Rattle.faults.proofs.Keeps.{limits_small}
 use Rattle.usual.specs.Usual.{most_of, Open}
+
+pub most_small : (op : ℕ) → op < 21 → most_of op ≤ 64
+most_small op h = by_test (eqb (get_or limits op 0) 0) (λ e. rw e (omega arith)) (λ e. rw e (limits_small op h))
 
 -- behind an opener that is the byte f of the command's, at most m
 unfoldable armed : (ℕ → ℕ) → ℕ → ℕ → Bool

@@ -39,7 +39,7 @@ by_width w f t op h e =
     let y : get_or widths op 0 ≡ w = rw (lt-ltb op 21 h) at e in
     rw (eq-eqb _ _ y) at z
 
-known : (op w : ℕ) → width_of op ≡ w → (w ≡ 9 → ⊥) → op < 21
+pub known : (op w : ℕ) → width_of op ≡ w → (w ≡ 9 → ⊥) → op < 21
 unfolding width_of
 known op w e n = by_test (ltb op 21) (λ y. ltb-true op 21 y) (λ y. let z : 9 ≡ w = rw y at e in absurd (n (sym z)))
 
