@@ -118,7 +118,7 @@ pub fn build_place<'a>(dir: &[u8], own: &[u8], s: &[u8], buffer: &'a mut [u8]) -
     ensures { result.now ≡ substituted dir.now (placed own.now s.now) }
 {
     if has_config_dir(s) {
-        return in_config_dir(dir, s, buffer);
+        return in_config_dir(dir, s, buffer); // The built config's, whatever the record's own.
     }
     let mut path = Output::new(buffer);
     normalize(&mut path, own, s);
