@@ -1,5 +1,5 @@
 #!/bin/sh
-# check_c.sh: compiles the C header and the C example with every warning an error, and runs the example on the worked example of the questions.
+# check_c.sh: holds the names that the archive needs from outside, compiles the C header and the C example with every warning an error, and runs the example on the worked example of the questions.
 set -eu
 here=$(cd "$(dirname "$0")" && pwd)
 library=${TSCONFIG_QUESTIONS_LIB:-$here/../../target/staticlib/libquestions.a}

@@ -43,6 +43,7 @@ fn open_book<'a>(
 fn is_asked(path: &[u8], directory: Option<&[u8]>, specifier: &[u8]) -> bool
     ensures { result ≡ asked_for path.now (option_copied directory.entry) specifier.now }
 {
+    // The path first: where it may not be asked, the directory is not looked at.
     is_asked_path(path) && directory.is_none_or(|d| is_asked_path(d)) && is_string(specifier)
 }
 

@@ -120,7 +120,8 @@ impl<'a> PathTable<'a> {
         self.rows.len()
     }
 
-    // The first row from i on that may begin with p. Only the byte k and the one before it are looked at, and none where k is the slash.
+    // The first row from i on that may begin with p. Only the byte k and the one before it are looked at, and none where k is the slash. Inlined:
+    // an owner's walk calls it for each folder.
     #[inline(always)]
     fn next_joined(&self, i: usize, p: &Joined<'_>, k: usize) -> usize
         requires { i ≤ length self.now.rows.now }
