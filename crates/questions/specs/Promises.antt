@@ -1,5 +1,5 @@
--- Demand 3 over what the entries promise: from the numbers that a C function returns, or those that a question gives, and the output that it leaves to the
--- line rule, for every book and every question that is not refused. What is quoted are demand 3's sentences.
+-- What is inherited, over what the entries promise: from the numbers that a C function returns, or those that a question gives, and the output that it leaves to
+-- the line rule, for every book and every question that is not refused. In quotation marks stands the requirement that a record renders.
 use Rattle.std.specs.Prelude.{◌≡◌, List, ◌++◌, true, false, ℕ, ◌+◌, ◌<◌, length, take, drop}
 use Rattle.std.specs.Prelude.{Some}
 use Rattle.text.specs.Bytes.{Text}
